@@ -1,0 +1,2 @@
+//! Laws of the integers: reading digits, and vectors.
+#![tactic(auto)]

@@ -1,0 +1,2 @@
+//! The definitions of the product and their laws.
+#![tactic(auto)]
