@@ -1,6 +1,6 @@
 -- Linear terms, and formulas of linear arithmetic over integers and reals. Variables are named by place: a formula over n
 -- variables uses the places 0 to n - 1, and the body of `Exists` is over one more, which it binds at place n.
-use Rattle.std.specs.Prelude.{ℕ, ◌<◌, ◌≡◌, List, All, ℤ, pos}
+use Rattle.std.specs.Prelude.{ℕ, ◌<◌, ◌≡◌, List, [], ◌∷◌, All, ℤ, pos}
 use Rattle.std.specs.List.{AllPairs}
 
 pub data Sort : Type 0 where

@@ -1,6 +1,6 @@
 -- The text of an automaton (own): a line for the base, the variables, the numbers of states and the roots, then a line for each
 -- state with its output or colour and its targets. Lines end with LF, words on a line are parted by one space.
-use Rattle.std.specs.Prelude.{ℕ, zero, suc, ◌*◌, List, [], ◌∷◌, ◌++◌, slice_index, take, drop, codes, decimal, nat_eq, if◌then◌else◌}
+use Rattle.std.specs.Prelude.{ℕ, zero, suc, ◌+◌, ◌*◌, List, [], ◌∷◌, ◌++◌, length, slice_index, take, drop, codes, decimal, nat_eq, if◌then◌else◌}
 use Rattle.lash_model.specs.Formulas.{Sort, Int, Real}
 use Rattle.lash_model.specs.Tables.{Table, letters, ints, fracs}
 
@@ -43,8 +43,8 @@ fracs_text (suc n) = codes "frac" ++ (numbers_text (suc n ∷ []) ++ codes "\n")
 -- the whole text, for the variables' names and sorts and a table
 abbrev pub text_of : List (List ℕ × Sort) → Table → List ℕ
 text_of vs t =
-    codes "lash 1\nbase" ++ (numbers_text (t.base ∷ []) ++ (codes "\nvars" ++ (variables_text vs ++
-    (codes "\nint" ++ (numbers_text (ints t ∷ []) ++ (codes "\n" ++ (fracs_text (fracs t) ++
-    (codes "roots" ++ (numbers_text t.roots ++ (codes "\n" ++
-    (lines_text (λ q. out_text t (slice_index t.outs q)) t.rows (letters t) 0 (ints t) ++
-    (lines_text (λ q. answer_text (slice_index t.colours q)) t.frac_rows (letters t) 0 (fracs t) ++ codes "end\n"))))))))))))
+  codes "lash 1\nbase" ++ (numbers_text (t.base ∷ []) ++ (codes "\nvars" ++ (variables_text vs ++
+  (codes "\nint" ++ (numbers_text (ints t ∷ []) ++ (codes "\n" ++ (fracs_text (fracs t) ++
+  (codes "roots" ++ (numbers_text t.roots ++ (codes "\n" ++
+  (lines_text (λ q. out_text t (slice_index t.outs q)) t.rows (letters t) 0 (ints t) ++
+  (lines_text (λ q. answer_text (slice_index t.colours q)) t.frac_rows (letters t) 0 (fracs t) ++ codes "end\n"))))))))))))

@@ -1,6 +1,6 @@
 -- The numbers that words of letters spell, in r's complement.
 use Rattle.std.specs.Prelude.{ℕ, ◌+◌, ◌*◌, ◌^◌, List, [], ◌∷◌, length, ℤ, pos, ◌-ℤ◌}
-use Rattle.integer_laws.specs.Vectors.{vector}
+use Rattle.integer_laws.specs.Vectors.{vector, vector_from}
 use Rattle.lash_model.specs.Letters.{digit, sign_bit}
 
 -- base, number of tracks, track, word: the number that the track's digits spell
