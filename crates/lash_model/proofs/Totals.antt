@@ -1,17 +1,18 @@
 -- The total of a linear term over vectors: of scaled vectors, of sums, and of the values of a word as a run.
 use Rattle.std.proofs.Common.{◌≡◌, ℕ, zero, suc, ◌+◌, ◌*◌, ◌≤◌, ◌<◌, List, [], ◌∷◌, ◌++◌, length, map, arith, refl, ◌∙◌, sym, ap}
-use Rattle.std.proofs.Math.IntN.{ℤ, pos, ◌+ℤ◌, ◌-ℤ◌, ◌*ℤ◌}
+use Rattle.std.proofs.Math.IntN.{ℤ, pos, neg_ℤ, ◌+ℤ◌, ◌-ℤ◌, ◌*ℤ◌}
+use Rattle.std.proofs.lemmas.Int.{ints}
 use Rattle.std.specs.List.{slice_index_or}
 use Rattle.integer_laws.specs.Differences.{diff}
 use Rattle.integer_laws.specs.Runs.{run}
 use Rattle.integer_laws.specs.Vectors.{scale, vector, vector_from}
 use Rattle.integer_laws.proofs.Ring.{diff_same, diff_add, diff_mul, by_diff, pos_diff}
-use Rattle.integer_laws.proofs.Reading.{run-push}
 use Rattle.integer_laws.proofs.Entries.{entry-scale, vector_from_same}
 use Rattle.lash_model.specs.Letters.{digit, sign_bit}
 use Rattle.lash_model.specs.Words.{value, values}
 use Rattle.lash_model.specs.Meaning.{total}
-use Rattle.lash_model.proofs.WordValues.{value-nil, value-push}
+use Rattle.lash_model.specs.Thresholds.{letter_total, sign_total}
+use Rattle.lash_model.proofs.WordValues.{track_digits, value_is_run}
 
 ring_scale : (c : ℕ) (a x s : ℤ) → (a *ℤ (pos c *ℤ x)) +ℤ (pos c *ℤ s) ≡ pos c *ℤ ((a *ℤ x) +ℤ s)
 ring_scale c a x s = by_diff (λ a. (a *ℤ (pos c *ℤ x)) +ℤ (pos c *ℤ s) ≡ pos c *ℤ ((a *ℤ x) +ℤ s)) (λ p q.
@@ -54,18 +55,39 @@ total_combined r f g h e [] n = none r
     none r = simp (pos_diff, diff_add, diff_mul) (diff_same _ _ _ _ (omega arith))
 total_combined r f g h e (t ∷ ts) n = ap (λ x. (t.1 *ℤ x) +ℤ total ts (vector f n)) (entry_combined r f g h e 0 n t.0) ∙ ap (λ s. (t.1 *ℤ ((pos r *ℤ slice_index_or (vector g n) t.0 (pos 0)) +ℤ slice_index_or (vector h n) t.0 (pos 0))) +ℤ s) (total_combined r f g h e ts n) ∙ ring_combined r t.1 (slice_index_or (vector g n) t.0 (pos 0)) (slice_index_or (vector h n) t.0 (pos 0)) (total ts (vector g n)) (total ts (vector h n))
 
--- the total of a letter's digits, and of a sign vector's bits
-pub letter_total : List (ℕ × ℤ) → ℕ → ℕ → ℕ → ℤ
-letter_total ts r n l = total ts (vector (λ i. pos (digit r n i l)) n)
+entry_negated : (f g : ℕ → ℤ) → ((i : ℕ) → f i ≡ neg_ℤ (g i)) → (i n p : ℕ) → slice_index_or (vector_from f i n) p (pos 0) ≡ neg_ℤ (slice_index_or (vector_from g i n) p (pos 0))
+unfolding vector_from
+entry_negated f g e i zero p = refl
+entry_negated f g e i (suc n) zero = e i
+entry_negated f g e i (suc n) (suc p) = entry_negated f g e (suc i) n p
 
-pub sign_total : List (ℕ × ℤ) → ℕ → ℕ → ℤ
-sign_total ts n sign = total ts (vector (λ i. diff 0 (sign_bit n i sign)) n)
+neg_diff : (p q : ℕ) → neg_ℤ (diff p q) ≡ diff q p
+unfolding diff
+neg_diff p q = omega (arith, ints)
 
--- the total after a word: from the sign bits' total, each letter's total is added to r times what was there
-pub total-values-nil : (ts : List (ℕ × ℤ)) (r n sign : ℕ) → total ts (values r n sign []) ≡ sign_total ts n sign
+ring_negated : (a x s : ℤ) → (a *ℤ neg_ℤ x) +ℤ neg_ℤ s ≡ neg_ℤ ((a *ℤ x) +ℤ s)
+ring_negated a x s = by_diff (λ a. (a *ℤ neg_ℤ x) +ℤ neg_ℤ s ≡ neg_ℤ ((a *ℤ x) +ℤ s)) (λ p q.
+  by_diff (λ x. (diff p q *ℤ neg_ℤ x) +ℤ neg_ℤ s ≡ neg_ℤ ((diff p q *ℤ x) +ℤ s)) (λ u v.
+  by_diff (λ s. (diff p q *ℤ neg_ℤ (diff u v)) +ℤ neg_ℤ s ≡ neg_ℤ ((diff p q *ℤ diff u v) +ℤ s)) (λ k l.
+    simp (neg_diff, diff_add, diff_mul) (diff_same _ _ _ _ (omega arith))) s) x) a
+
+-- minus a vector has minus the total
+total_negated : (f g : ℕ → ℤ) → ((i : ℕ) → f i ≡ neg_ℤ (g i)) → (ts : List (ℕ × ℤ)) (n : ℕ) → total ts (vector f n) ≡ neg_ℤ (total ts (vector g n))
+unfolding total
+total_negated f g e [] n = refl
+total_negated f g e (t ∷ ts) n = ap (λ x. (t.1 *ℤ x) +ℤ total ts (vector f n)) (entry_negated f g e 0 n t.0) ∙ ap (λ s. (t.1 *ℤ neg_ℤ (slice_index_or (vector g n) t.0 (pos 0))) +ℤ s) (total_negated f g e ts n) ∙ ring_negated t.1 (slice_index_or (vector g n) t.0 (pos 0)) (total ts (vector g n))
+
+-- the total of the vector that is reached by reading a word on each track is reached by reading the letters' totals
+total_of_runs : (ts : List (ℕ × ℤ)) (r n : ℕ) (start : ℕ → ℤ) (w : List ℕ) → total ts (vector (λ i. run r (start i) (track_digits r n i w)) n) ≡ run r (total ts (vector start n)) (map (letter_total ts r n) w)
+unfolding run track_digits letter_total
+total_of_runs ts r n start [] = refl
+total_of_runs ts r n start (l ∷ w) = total_of_runs ts r n (λ i. (pos r *ℤ start i) +ℤ pos (digit r n i l)) w ∙ ap (λ x. run r x (map (letter_total ts r n) w)) (total_combined r (λ i. (pos r *ℤ start i) +ℤ pos (digit r n i l)) start (λ i. pos (digit r n i l)) (λ i. refl) ts n)
+
+minus_bit : (b : ℕ) → diff 0 b ≡ neg_ℤ (pos b)
+unfolding diff
+minus_bit b = omega (arith, ints)
+
+-- the total of a word's values: from minus the total of the sign bits, each letter's total is added to r times what was there
+pub total_of_values : (ts : List (ℕ × ℤ)) (r n sign : ℕ) (w : List ℕ) → total ts (values r n sign w) ≡ run r (neg_ℤ (sign_total ts n sign)) (map (letter_total ts r n) w)
 unfolding sign_total
-total-values-nil ts r n sign = ap (total ts) (vector_from_same (λ i. value r n i sign []) (λ i. diff 0 (sign_bit n i sign)) 0 n (λ j a b. value-nil r n j sign))
-
-pub total-values-push : (ts : List (ℕ × ℤ)) (r n sign : ℕ) (w : List ℕ) (l : ℕ) → total ts (values r n sign (w ++ l ∷ [])) ≡ (pos r *ℤ total ts (values r n sign w)) +ℤ letter_total ts r n l
-unfolding letter_total
-total-values-push ts r n sign w l = total_combined r (λ i. value r n i sign (w ++ l ∷ [])) (λ i. value r n i sign w) (λ i. pos (digit r n i l)) (λ i. value-push r n i sign w l) ts n
+total_of_values ts r n sign w = ap (total ts) (vector_from_same (λ i. value r n i sign w) (λ i. run r (diff 0 (sign_bit n i sign)) (track_digits r n i w)) 0 n (λ j a b. value_is_run r n j sign w)) ∙ total_of_runs ts r n (λ i. diff 0 (sign_bit n i sign)) w ∙ ap (λ x. run r x (map (letter_total ts r n) w)) (total_negated (λ i. diff 0 (sign_bit n i sign)) (λ i. pos (sign_bit n i sign)) (λ i. minus_bit (sign_bit n i sign)) ts n)

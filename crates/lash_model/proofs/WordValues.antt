@@ -59,7 +59,7 @@ value-push r n i sign w l = value_by r n i sign (w ++ l ∷ []) ∙ ap (λ k. di
     regroup r s b p d = simp (pos_diff, diff_add, diff_mul) (diff_same _ _ _ _ (omega arith))
 
 -- the digits of a track, as integers
-pub track_digits : ℕ → ℕ → ℕ → List ℕ → List ℤ
+unfoldable pub track_digits : ℕ → ℕ → ℕ → List ℕ → List ℤ
 track_digits r n i w = map (λ l. pos (digit r n i l)) w
 
 pub track_digits-append : (r n i : ℕ) (v w : List ℕ) → track_digits r n i (v ++ w) ≡ track_digits r n i v ++ track_digits r n i w

@@ -1,0 +1,4 @@
+//! Tables of linear equations and inequations.
+#![tactic(auto)]
+
+mod thresholds;
