@@ -1,0 +1,282 @@
+//! Tables of automata on digits: for each state and letter a target, in flat lists of cells. Reading or changing an entry takes
+//! one access. A table without fraction states is a Number Decision Diagram, any other a Real Vector Automaton.
+
+ghost use Rattle.std.specs.Prelude.{◌≡◌, ℕ, ◌+◌, ◌*◌, ◌<◌, ◌≤◌, ◌^◌, List, All, length, slice_index, slice_set, nat_eq, if◌then◌else◌, IfOk};
+ghost use Rattle.graph_laws.specs.Walks.{go, copies};
+ghost use Rattle.lash_model.specs.Acceptance.{accepts_word, accepts_lasso};
+ghost use Rattle.lash_model.specs.Lassos.{IsLasso};
+ghost use Rattle.lash_model.specs.Tables.{IsShape, IsTable, IsDiagram, out_bound};
+ghost use Rattle.digit_codes.specs.Reading.{lasso_of};
+ghost use Rattle.step_tables.specs.Kept.{plain, zeros};
+
+use crate::{Cells, Plain};
+use digit_codes::{Base, Lasso, Memory};
+use std::alloc::Global;
+use std::marker::Model;
+
+/// An automaton that reads the letters of so many tracks. The integer part has a root for each sign vector, and a row of targets
+/// and an output for each state; the fraction part has a row of targets and a colour for each state. Outputs are fraction states
+/// or, where there are none, 1 for yes and 0 for no. All entries are in range.
+#[derive(Drop)]
+pub struct Table<C: Cells> {
+    base: Base,
+    tracks: u32,
+    letters: u32,
+    ints: u32,
+    fracs: u32,
+    roots: C,
+    rows: C,
+    outs: C,
+    frac_rows: C,
+    colours: C,
+}
+
+impl<C: Cells> Model for Table<C> {
+    ghost use Rattle.step_tables.specs.Kept.{Kept, IsCounted};
+
+    ghost Value = { Kept };
+
+    ghost view = { λ t. record { table = record { base = t.base; tracks = t.tracks; roots = C.items t.roots; rows = C.items t.rows; outs = C.items t.outs; frac_rows = C.items t.frac_rows; colours = C.items t.colours }; bounds = record { roots = C.limit t.roots; rows = C.limit t.rows; outs = C.limit t.outs; frac_rows = C.limit t.frac_rows; colours = C.limit t.colours } } };
+
+    ghost invariant = { λ t. IsCounted (record { table = record { base = t.base; tracks = t.tracks; roots = C.items t.roots; rows = C.items t.rows; outs = C.items t.outs; frac_rows = C.items t.frac_rows; colours = C.items t.colours }; bounds = record { roots = C.limit t.roots; rows = C.limit t.rows; outs = C.limit t.outs; frac_rows = C.limit t.frac_rows; colours = C.limit t.colours } }) t.letters t.ints t.fracs };
+}
+
+/// Where a state's target for a letter stands.
+fn place(state: u32, letters: u32, letter: u32) -> usize
+    requires { letter < letters }
+    ensures { result ≡ state * letters + letter }
+{
+    state as usize * letters as usize + letter as usize
+}
+
+impl Table<Plain> {
+    /// The table of zeros. The base to the number of tracks is at most 4,096, there is an integer state, and the cells, one more
+    /// than the letters for each state, are at most 16,777,216. Without fraction states it is a diagram.
+    pub fn blank(
+        alloc: Global,
+        base: Base,
+        tracks: u32,
+        ints: u32,
+        fracs: u32,
+    ) -> Result<Table<Plain>, Memory>
+        requires shape { IsShape base tracks ints fracs }
+        ensures blank { IfOk result (λ t. t ≡ plain (zeros base tracks ints fracs)) }
+        ensures table { IfOk result (λ t. IsTable t.table) }
+    {
+        let letters = base.radix().pow(tracks);
+        let roots = Plain::new(alloc, 2usize.pow(tracks))?;
+        let rows = Plain::new(alloc, ints as usize * letters as usize)?;
+        let outs = Plain::new(alloc, ints as usize)?;
+        let frac_rows = Plain::new(alloc, fracs as usize * letters as usize)?;
+        let colours = Plain::new(alloc, fracs as usize)?;
+        Ok(Table {
+            base,
+            tracks,
+            letters,
+            ints,
+            fracs,
+            roots,
+            rows,
+            outs,
+            frac_rows,
+            colours,
+        })
+    }
+}
+
+impl<C: Cells> Table<C> {
+    /// The base.
+    pub fn base(&self) -> Base
+        ensures { result ≡ self.now.table.base }
+    {
+        self.base
+    }
+
+    /// The number of tracks.
+    pub fn tracks(&self) -> u32
+        ensures { result ≡ self.now.table.tracks }
+    {
+        self.tracks
+    }
+
+    /// The number of letters, the base to the number of tracks.
+    pub fn letters(&self) -> u32
+        ensures value { result ≡ self.now.table.base ^ self.now.table.tracks }
+        ensures table { IsTable self.now.table }
+    {
+        self.letters
+    }
+
+    /// The number of integer states.
+    pub fn ints(&self) -> u32
+        ensures { result ≡ length self.now.table.outs }
+    {
+        self.ints
+    }
+
+    /// The number of fraction states.
+    pub fn fracs(&self) -> u32
+        ensures { result ≡ length self.now.table.colours }
+    {
+        self.fracs
+    }
+
+    /// The integer state from which numbers of these signs are read.
+    pub fn root(&self, sign: u32) -> u32
+        requires { sign < 2 ^ self.now.table.tracks }
+        ensures value { result ≡ slice_index self.now.table.roots sign }
+        ensures below { result < length self.now.table.outs }
+    {
+        self.roots.get(sign as usize)
+    }
+
+    /// The integer state behind a letter.
+    pub fn int_step(&self, state: u32, letter: u32) -> u32
+        requires state { state < length self.now.table.outs }
+        requires letter { letter < self.now.table.base ^ self.now.table.tracks }
+        ensures value { result ≡ slice_index self.now.table.rows (state * self.now.table.base ^ self.now.table.tracks + letter) }
+        ensures below { result < length self.now.table.outs }
+    {
+        self.rows.get(place(state, self.letters, letter))
+    }
+
+    /// The output of an integer state.
+    pub fn out(&self, state: u32) -> u32
+        requires { state < length self.now.table.outs }
+        ensures value { result ≡ slice_index self.now.table.outs state }
+        ensures below { result < out_bound (length self.now.table.colours) }
+    {
+        self.outs.get(state as usize)
+    }
+
+    /// The fraction state behind a letter.
+    pub fn frac_step(&self, state: u32, letter: u32) -> u32
+        requires state { state < length self.now.table.colours }
+        requires letter { letter < self.now.table.base ^ self.now.table.tracks }
+        ensures value { result ≡ slice_index self.now.table.frac_rows (state * self.now.table.base ^ self.now.table.tracks + letter) }
+        ensures below { result < length self.now.table.colours }
+    {
+        self.frac_rows.get(place(state, self.letters, letter))
+    }
+
+    /// Whether a fraction state has the colour yes.
+    pub fn colour(&self, state: u32) -> bool
+        requires { state < length self.now.table.colours }
+        ensures { result ≡ nat_eq (slice_index self.now.table.colours state) 1 }
+    {
+        self.colours.get(state as usize) == 1
+    }
+
+    /// Changes the root of a sign vector.
+    pub fn set_root(&mut self, sign: u32, to: u32)
+        requires sign { sign < 2 ^ self.old.table.tracks }
+        requires to { to < length self.old.table.outs }
+        requires bound { to < self.old.bounds.roots }
+        ensures changed { self.new ≡ record self.old { table = record self.old.table { roots = slice_set self.old.table.roots sign to } } }
+        ensures table { IsTable self.new.table }
+    {
+        self.roots.set(sign as usize, to);
+    }
+
+    /// Changes the target of an integer state and a letter.
+    pub fn set_int(&mut self, state: u32, letter: u32, to: u32)
+        requires state { state < length self.old.table.outs }
+        requires letter { letter < self.old.table.base ^ self.old.table.tracks }
+        requires to { to < length self.old.table.outs }
+        requires bound { to < self.old.bounds.rows }
+        ensures changed { self.new ≡ record self.old { table = record self.old.table { rows = slice_set self.old.table.rows (state * self.old.table.base ^ self.old.table.tracks + letter) to } } }
+        ensures table { IsTable self.new.table }
+    {
+        self.rows.set(place(state, self.letters, letter), to);
+    }
+
+    /// Changes the output of an integer state.
+    pub fn set_out(&mut self, state: u32, to: u32)
+        requires state { state < length self.old.table.outs }
+        requires to { to < out_bound (length self.old.table.colours) }
+        requires bound { to < self.old.bounds.outs }
+        ensures changed { self.new ≡ record self.old { table = record self.old.table { outs = slice_set self.old.table.outs state to } } }
+        ensures table { IsTable self.new.table }
+    {
+        self.outs.set(state as usize, to);
+    }
+
+    /// Changes the target of a fraction state and a letter.
+    pub fn set_frac(&mut self, state: u32, letter: u32, to: u32)
+        requires state { state < length self.old.table.colours }
+        requires letter { letter < self.old.table.base ^ self.old.table.tracks }
+        requires to { to < length self.old.table.colours }
+        requires bound { to < self.old.bounds.frac_rows }
+        ensures changed { self.new ≡ record self.old { table = record self.old.table { frac_rows = slice_set self.old.table.frac_rows (state * self.old.table.base ^ self.old.table.tracks + letter) to } } }
+        ensures table { IsTable self.new.table }
+    {
+        self.frac_rows.set(place(state, self.letters, letter), to);
+    }
+
+    /// Changes the colour of a fraction state.
+    pub fn set_colour(&mut self, state: u32, yes: bool)
+        requires { state < length self.old.table.colours }
+        ensures changed { self.new ≡ record self.old { table = record self.old.table { colours = slice_set self.old.table.colours state (if yes then 1 else 0) } } }
+        ensures table { IsTable self.new.table }
+    {
+        self.colours.set(state as usize, if yes { 1 } else { 0 });
+    }
+
+    /// The integer state behind a word, read from an integer state.
+    pub fn run_word(&self, state: u32, word: &[u32]) -> u32
+        requires state { state < length self.now.table.outs }
+        requires letters { All (λ l. l < self.now.table.base ^ self.now.table.tracks) word.now }
+        ensures value { result ≡ go self.now.table.rows (self.now.table.base ^ self.now.table.tracks) state word.now }
+        ensures below { result < length self.now.table.outs }
+    {
+        let mut at = state;
+        for letter in word {
+            at = self.int_step(at, *letter);
+        }
+        at
+    }
+
+    /// The fraction state behind a word, read from a fraction state.
+    pub fn run_frac(&self, state: u32, word: &[u32]) -> u32
+        requires state { state < length self.now.table.colours }
+        requires letters { All (λ l. l < self.now.table.base ^ self.now.table.tracks) word.now }
+        ensures value { result ≡ go self.now.table.frac_rows (self.now.table.base ^ self.now.table.tracks) state word.now }
+        ensures below { result < length self.now.table.colours }
+    {
+        let mut at = state;
+        for letter in word {
+            at = self.frac_step(at, *letter);
+        }
+        at
+    }
+
+    /// The fraction state behind as many turns of a cycle as there are fraction states.
+    fn run_turns(&self, state: u32, cycle: &[u32]) -> u32
+        requires state { state < length self.now.table.colours }
+        requires letters { All (λ l. l < self.now.table.base ^ self.now.table.tracks) cycle.now }
+        ensures value { result ≡ go self.now.table.frac_rows (self.now.table.base ^ self.now.table.tracks) state (copies (length self.now.table.colours) cycle.now) }
+        ensures below { result < length self.now.table.colours }
+    {
+        let mut at = state;
+        for _turn in 0..self.fracs {
+            at = self.run_frac(at, cycle);
+        }
+        at
+    }
+
+    /// Whether the automaton accepts a lasso. A diagram looks at the sign and the whole word alone; with fraction states it is the
+    /// colour behind the whole word, the output, the stem, and as many turns of the cycle as there are fraction states.
+    pub fn accepts(&self, lasso: &Lasso) -> bool
+        requires { IsLasso self.now.table.base self.now.table.tracks (lasso_of lasso.now) }
+        ensures diagram { IsDiagram self.now.table → result ≡ accepts_word self.now.table lasso.now.sign lasso.now.whole }
+        ensures fractions { 0 < length self.now.table.colours → result ≡ accepts_lasso self.now.table (lasso_of lasso.now) }
+    {
+        let state = self.run_word(self.root(lasso.sign), lasso.whole.letters());
+        let out = self.out(state);
+        if self.fracs == 0 {
+            return out == 1;
+        }
+        let behind_stem = self.run_frac(out, lasso.stem.letters());
+        self.colour(self.run_turns(behind_stem, lasso.cycle.letters()))
+    }
+}
