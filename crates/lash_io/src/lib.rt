@@ -6,11 +6,16 @@
 #![tactic(auto)]
 
 mod adapters;
+mod blocks;
 mod ends;
 mod in_memory;
 mod numbers;
 
 pub use adapters::{StdSink, StdSource};
+pub use blocks::Block;
 pub use ends::{Failed, Memory, Sink, Source};
 pub use in_memory::{MemSink, MemSource};
 pub use numbers::put_number;
+
+#[cfg(test)]
+mod tests;

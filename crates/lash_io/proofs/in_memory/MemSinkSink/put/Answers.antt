@@ -1,5 +1,5 @@
 -- The bytes that were appended are the first of those that were put.
-use Rattle.std.proofs.Common.{◌≡◌, ◌++◌, take, ap, ◌∙◌}
+use Rattle.std.proofs.Common.{◌++◌, take, ap, ◌∙◌}
 use Rattle.lash_io.proofs.Holding.{front_is_part}
 use Rattle.lash_io.proofs.in_memory.MemSinkSink.put.Goals as goal
 

@@ -1,5 +1,5 @@
 -- The bytes that were copied to the front of the buffer are the first that were left.
-use Rattle.std.proofs.Common.{◌≡◌, ℕ, ◌-◌, ◌≤◌, ◌<◌, List, ◌++◌, length, take, drop, sym, ap, ◌∙◌, refl, arith}
+use Rattle.std.proofs.Common.{◌≡◌, ℕ, ◌-◌, ◌≤◌, List, ◌++◌, length, take, drop, sym, ap, ◌∙◌, refl, arith}
 use Rattle.std.proofs.lemmas.List.{take_rest, length-append, length-take, length-drop}
 use Rattle.lash_io.proofs.Giving.{gave_front}
 use Rattle.lash_io.proofs.in_memory.MemSourceSource.read.Goals as goal
