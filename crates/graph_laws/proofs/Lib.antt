@@ -1,2 +1,5 @@
 pub mod Joining
 pub mod Turns
+pub mod PathOrder
+pub mod Weighing
+pub mod Positions

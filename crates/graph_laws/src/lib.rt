@@ -1,10 +1,11 @@
-//! Laws of graphs: walks.
+//! Laws of graphs: walks and exploration.
 #![tactic(auto)]
 
-ghost use Rattle.std.specs.Prelude.{◌≡◌, ℕ, List, ◌++◌};
-ghost use Rattle.graph_laws.specs.Walks.{go};
+mod exploration;
+mod walks;
 
-/// A walk over two words is the walk over the second from where the first leads.
-pub fn walks_join()
-    ensures { (rows : List ℕ) (width q : ℕ) (x y : List ℕ) → go rows width q (x ++ y) ≡ go rows width (go rows width q x) y }
-{}
+pub use exploration::{
+    both_explored, first_of_two, heavy_or_explored, no_heavy_on_states, paths_lead_home,
+    positions_follow_keys, second_of_two,
+};
+pub use walks::walks_join;

@@ -1,8 +1,18 @@
 //! Tables of automata on digits, and the exploration of machines into such tables.
 #![tactic(auto)]
 
+mod breadth_first;
 mod cells;
+mod entries;
+mod errors;
+mod explored;
+mod found;
+mod machine;
 mod table;
 
+pub use breadth_first::explore;
 pub use cells::{Cells, Plain};
+pub use errors::{BuildError, ExploreError};
+pub use explored::Explored;
+pub use machine::{Key, Machine};
 pub use table::Table;

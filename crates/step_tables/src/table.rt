@@ -9,6 +9,7 @@ ghost use Rattle.lash_model.specs.Tables.{IsShape, IsTable, IsDiagram, out_bound
 ghost use Rattle.digit_codes.specs.Reading.{lasso_of};
 ghost use Rattle.step_tables.specs.Kept.{plain, zeros};
 
+use crate::entries::entry_at;
 use crate::{Cells, Plain};
 use digit_codes::{Base, Lasso, Memory};
 use std::alloc::Global;
@@ -39,14 +40,6 @@ impl<C: Cells> Model for Table<C> {
     ghost view = { λ t. record { table = record { base = t.base; tracks = t.tracks; roots = C.items t.roots; rows = C.items t.rows; outs = C.items t.outs; frac_rows = C.items t.frac_rows; colours = C.items t.colours }; bounds = record { roots = C.limit t.roots; rows = C.limit t.rows; outs = C.limit t.outs; frac_rows = C.limit t.frac_rows; colours = C.limit t.colours } } };
 
     ghost invariant = { λ t. IsCounted (record { table = record { base = t.base; tracks = t.tracks; roots = C.items t.roots; rows = C.items t.rows; outs = C.items t.outs; frac_rows = C.items t.frac_rows; colours = C.items t.colours }; bounds = record { roots = C.limit t.roots; rows = C.limit t.rows; outs = C.limit t.outs; frac_rows = C.limit t.frac_rows; colours = C.limit t.colours } }) t.letters t.ints t.fracs };
-}
-
-/// Where a state's target for a letter stands.
-fn place(state: u32, letters: u32, letter: u32) -> usize
-    requires { letter < letters }
-    ensures { result ≡ state * letters + letter }
-{
-    state as usize * letters as usize + letter as usize
 }
 
 impl Table<Plain> {
@@ -137,7 +130,7 @@ impl<C: Cells> Table<C> {
         ensures value { result ≡ slice_index self.now.table.rows (state * self.now.table.base ^ self.now.table.tracks + letter) }
         ensures below { result < length self.now.table.outs }
     {
-        self.rows.get(place(state, self.letters, letter))
+        self.rows.get(entry_at(state, self.letters, letter))
     }
 
     /// The output of an integer state.
@@ -156,7 +149,7 @@ impl<C: Cells> Table<C> {
         ensures value { result ≡ slice_index self.now.table.frac_rows (state * self.now.table.base ^ self.now.table.tracks + letter) }
         ensures below { result < length self.now.table.colours }
     {
-        self.frac_rows.get(place(state, self.letters, letter))
+        self.frac_rows.get(entry_at(state, self.letters, letter))
     }
 
     /// Whether a fraction state has the colour yes.
@@ -187,7 +180,7 @@ impl<C: Cells> Table<C> {
         ensures changed { self.new ≡ record self.old { table = record self.old.table { rows = slice_set self.old.table.rows (state * self.old.table.base ^ self.old.table.tracks + letter) to } } }
         ensures table { IsTable self.new.table }
     {
-        self.rows.set(place(state, self.letters, letter), to);
+        self.rows.set(entry_at(state, self.letters, letter), to);
     }
 
     /// Changes the output of an integer state.
@@ -210,7 +203,8 @@ impl<C: Cells> Table<C> {
         ensures changed { self.new ≡ record self.old { table = record self.old.table { frac_rows = slice_set self.old.table.frac_rows (state * self.old.table.base ^ self.old.table.tracks + letter) to } } }
         ensures table { IsTable self.new.table }
     {
-        self.frac_rows.set(place(state, self.letters, letter), to);
+        self.frac_rows
+            .set(entry_at(state, self.letters, letter), to);
     }
 
     /// Changes the colour of a fraction state.

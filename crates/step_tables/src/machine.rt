@@ -1,0 +1,46 @@
+//! Machines whose states are named by keys, short lists of numbers.
+
+ghost use Rattle.std.specs.Prelude.{◌≡◌, ◌<◌, List, ℕ, Bool, length, IsTrue, OnOk};
+ghost use Rattle.graph_laws.specs.Exploring.{Steps, list_at};
+
+use digit_codes::Memory;
+use smallvec::SmallVec;
+use std::alloc::Global;
+
+/// The key of a state. Up to 8 numbers stand in place.
+pub type Key = SmallVec<u32, 8, Global>;
+
+/// What can be explored: a number of letters, start keys, the key behind each key and letter, the weight of each key, and a test of
+/// which keys are proper. All keys that are met are proper. The two calls that write a key may want memory: then the key that they
+/// write has any content.
+pub trait Machine {
+    ghost meaning: { Self → Steps };
+
+    /// The number of letters.
+    fn letters(&self) -> u32
+        ensures { result ≡ (meaning self.now).width };
+
+    /// The number of starts.
+    fn starts(&self) -> usize
+        ensures { result ≡ length (meaning self.now).starts };
+
+    /// Writes the key of a start.
+    fn start(&mut self, at: usize, into: &mut Key) -> Result<(), Memory>
+        requires { at < length (meaning self.old).starts }
+        ensures key { OnOk result (into.new.items ≡ list_at (meaning self.old).starts at) }
+        ensures proper { OnOk result (IsTrue ((meaning self.old).is_proper into.new.items)) }
+        ensures kept { meaning self.new ≡ meaning self.old };
+
+    /// Writes the key behind a proper key and a letter.
+    fn step(&mut self, from: &Key, letter: u32, into: &mut Key) -> Result<(), Memory>
+        requires proper { IsTrue ((meaning self.old).is_proper from.now.items) }
+        requires letter { letter < (meaning self.old).width }
+        ensures key { OnOk result (into.new.items ≡ (meaning self.old).step from.now.items letter) }
+        ensures proper { OnOk result (IsTrue ((meaning self.old).is_proper into.new.items)) }
+        ensures kept { meaning self.new ≡ meaning self.old };
+
+    /// The weight of a proper key.
+    fn weight(&self, key: &Key) -> u64
+        requires { IsTrue ((meaning self.now).is_proper key.now.items) }
+        ensures { result ≡ (meaning self.now).weight key.now.items };
+}
