@@ -6,7 +6,7 @@ use Rattle.lash_model.specs.Formulas.{Sort, Int, Real, Linear, Formula, Le, Eq, 
 use Rattle.formula_core.specs.Terms.{coefficient_at}
 
 -- each node counts 1
-unfoldable pub nodes_of : Formula → ℕ
+abbrev pub nodes_of : Formula → ℕ
 nodes_of (Le a) = 1
 nodes_of (Eq a) = 1
 nodes_of (Not f) = nodes_of f + 1
@@ -15,7 +15,7 @@ nodes_of (Or f g) = nodes_of f + nodes_of g + 1
 nodes_of (Exists s f) = nodes_of f + 1
 
 -- an atom alone has depth 1
-unfoldable pub depth_of : Formula → ℕ
+abbrev pub depth_of : Formula → ℕ
 depth_of (Le a) = 1
 depth_of (Eq a) = 1
 depth_of (Not f) = depth_of f + 1
@@ -32,7 +32,7 @@ is_int Int = true
 is_int Real = false
 
 -- each bound variable is an integer
-unfoldable pub binds_ints : Formula → Bool
+abbrev pub binds_ints : Formula → Bool
 binds_ints (Le a) = true
 binds_ints (Eq a) = true
 binds_ints (Not f) = binds_ints f
@@ -45,7 +45,7 @@ abbrev pub term_uses : ℕ → Linear → Bool
 term_uses place a = not (int_eq (coefficient_at a.terms place) (pos 0))
 
 -- the place has a nonzero coefficient in some atom
-unfoldable pub uses : ℕ → Formula → Bool
+abbrev pub uses : ℕ → Formula → Bool
 uses place (Le a) = term_uses place a
 uses place (Eq a) = term_uses place a
 uses place (Not f) = uses place f

@@ -25,6 +25,7 @@ pub enum Formula {
 
 impl Formula {
     /// The same formula once more.
+    #[cycle(copied)]
     pub fn copied(&self, alloc: Global) -> Result<Formula, Memory>
         ensures { IfOk result (λ copy. formula_of copy ≡ formula_of self.now) }
     {
@@ -38,8 +39,14 @@ impl Formula {
                 Err(error) => Err(error),
             },
             Formula::Not(inner) => Ok(Formula::Not(copied_box(alloc, inner)?)),
-            Formula::And(left, right) => Ok(Formula::And(copied_box(alloc, left)?, copied_box(alloc, right)?)),
-            Formula::Or(left, right) => Ok(Formula::Or(copied_box(alloc, left)?, copied_box(alloc, right)?)),
+            Formula::And(left, right) => Ok(Formula::And(
+                copied_box(alloc, left)?,
+                copied_box(alloc, right)?,
+            )),
+            Formula::Or(left, right) => Ok(Formula::Or(
+                copied_box(alloc, left)?,
+                copied_box(alloc, right)?,
+            )),
             Formula::Exists(sort, inner) => Ok(Formula::Exists(*sort, copied_box(alloc, inner)?)),
         }
     }
@@ -66,7 +73,9 @@ pub fn nodes(formula: &Formula) -> u64
     match formula {
         Formula::Le(_) | Formula::Eq(_) => 1,
         Formula::Not(inner) | Formula::Exists(_, inner) => nodes(inner).saturating_add(1),
-        Formula::And(left, right) | Formula::Or(left, right) => nodes(left).saturating_add(nodes(right)).saturating_add(1),
+        Formula::And(left, right) | Formula::Or(left, right) => nodes(left)
+            .saturating_add(nodes(right))
+            .saturating_add(1),
     }
 }
 
@@ -77,7 +86,9 @@ pub fn depth(formula: &Formula) -> u64
     match formula {
         Formula::Le(_) | Formula::Eq(_) => 1,
         Formula::Not(inner) | Formula::Exists(_, inner) => depth(inner).saturating_add(1),
-        Formula::And(left, right) | Formula::Or(left, right) => depth(left).max(depth(right)).saturating_add(1),
+        Formula::And(left, right) | Formula::Or(left, right) => depth(left)
+            .max(depth(right))
+            .saturating_add(1),
     }
 }
 
@@ -92,7 +103,12 @@ pub fn all_int(sorts: &[Sort], formula: &Formula) -> bool
 fn are_int(sorts: &[Sort]) -> bool
     ensures { result ≡ list_all is_int (map sort_of sorts.now) }
 {
-    sorts.iter().all(|sort| *sort == Sort::Int)
+    for sort in sorts {
+        if *sort == Sort::Real {
+            return false;
+        }
+    }
+    true
 }
 
 // Whether the sorts of all bound variables are `Int`.
@@ -102,7 +118,8 @@ fn binds_only_ints(formula: &Formula) -> bool
     match formula {
         Formula::Le(_) | Formula::Eq(_) => true,
         Formula::Not(inner) => binds_only_ints(inner),
-        Formula::And(left, right) | Formula::Or(left, right) => binds_only_ints(left) && binds_only_ints(right),
+        Formula::And(left, right) | Formula::Or(left, right) => binds_only_ints(left)
+            && binds_only_ints(right),
         Formula::Exists(sort, inner) => *sort == Sort::Int && binds_only_ints(inner),
     }
 }

@@ -1,10 +1,14 @@
-//! Linear terms and lists of variables, over integers and reals.
+//! Formulas of linear arithmetic over integers and reals, with their terms, sorts and lists of variables.
 #![tactic(auto)]
 
+mod formula;
+mod free;
 mod linear;
 mod sort;
 mod vars;
 
+pub use formula::{Formula, all_int, depth, nodes};
+pub use free::free_vars;
 pub use linear::Linear;
-pub use sort::{Memory, Sort};
+pub use sort::Sort;
 pub use vars::Vars;

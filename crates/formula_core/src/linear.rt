@@ -8,7 +8,7 @@ ghost use Rattle.lash_model.specs.Formulas.{IsLinear};
 ghost use Rattle.lash_model.specs.Meaning.{total};
 ghost use Rattle.formula_core.specs.Terms.{added, with_sum, coefficient_at, IsPlaceOf};
 
-use crate::sort::Memory;
+use lash_io::Memory;
 use std::alloc::Global;
 use std::marker::Model;
 

@@ -4,7 +4,8 @@ ghost use Rattle.std.specs.Prelude.{◌≡◌, ◌<◌, ◌≤◌, ℕ, List, []
 ghost use Rattle.formula_core.specs.Names.{IsVariableName};
 ghost use Rattle.formula_core.specs.Variables.{sort_of, names_of, sorts_of, AreVariables};
 
-use crate::sort::{Memory, Sort};
+use crate::sort::Sort;
+use lash_io::Memory;
 use std::alloc::Global;
 use std::marker::Model;
 
