@@ -7,4 +7,4 @@ mod word;
 
 pub use base::Base;
 pub use letter::letter_digit;
-pub use word::{Lasso, Memory, Word};
+pub use word::{Lasso, Word};

@@ -73,13 +73,6 @@ pub record TooManyThresholds (r width : ℕ) (total : ℕ → ℤ) (seeds : List
   pub sound : All (IsThreshold r width total seeds) found
   pub over : limit < atom_cells width (length found)
 
--- the thresholds are so few that their table is within the limit
-pub record FewThresholds (r width : ℕ) (total : ℕ → ℤ) (seeds : List ℤ) (limit states : ℕ) : Type 0 where
-  pub found : List ℤ
-  pub thresholds : AreThresholds r width total seeds found
-  pub count : states ≡ length found + 1
-  pub within : atom_cells width (length found) ≤ limit
-
 abbrev pub one_if : Bool → ℕ
 one_if true = 1
 one_if false = 0
@@ -103,3 +96,14 @@ pub record CountsThresholds (kind : Comparison) (a : Linear) (r n : ℕ) (ts : L
   pub roots : (sign : ℕ) → sign < 2 ^ n → slice_index_or t.roots sign 0 ≡ below ts (neg_ℤ (sign_total a.terms n sign))
   pub rows : (c l : ℕ) → c < length ts + 1 → l < r ^ n → slice_index_or t.rows (c * r ^ n + l) 0 ≡ below ts ((pos r *ℤ representative ts c) +ℤ letter_total a.terms r n l)
   pub outs : (c : ℕ) → c < length ts + 1 → slice_index_or t.outs c 0 ≡ one_if (passes kind (representative ts c) a.constant)
+
+-- the table of an atom: it counts exactly the atom's thresholds, and its cells are within the limit
+pub record IsAtomTable (kind : Comparison) (a : Linear) (r n limit : ℕ) (t : Table) : Type 0 where
+  pub found : List ℤ
+  pub thresholds : AreThresholds r (r ^ n) (letter_total a.terms r n) (seeds kind a.constant) found
+  pub counts : CountsThresholds kind a r n found t
+  pub within : atom_cells (r ^ n) (length found) ≤ limit
+
+-- the table of an atom has more cells than the limit
+abbrev pub IsHeavyAtom : Comparison → Linear → ℕ → ℕ → ℕ → Type 0
+IsHeavyAtom kind a r n limit = TooManyThresholds r (r ^ n) (letter_total a.terms r n) (seeds kind a.constant) limit

@@ -6,22 +6,24 @@ ghost use Rattle.lash_model.specs.Thresholds.{below, representative};
 ghost use Rattle.linear_atoms.specs.Closing.{IsSmall, IsSmallTotal};
 
 /// How many of the rising thresholds are below a value.
-pub fn count_below(thresholds: &[i128], value: &i128) -> usize
-    requires { AllPairs (λ x y. x <ℤ y) thresholds.now }
-    ensures { result ≡ below thresholds.now value.now }
+pub fn count_below(thresholds: &[i128], value: &i128) -> u32
+    requires rising { AllPairs (λ x y. x <ℤ y) thresholds.now }
+    requires few { length thresholds.now < 2 ^ 31 }
+    ensures value { result ≡ below thresholds.now value.now }
+    ensures within { result < length thresholds.now + 1 }
 {
-    thresholds.partition_point(|threshold| *threshold < *value)
+    thresholds.partition_point(|threshold| *threshold < *value) as u32
 }
 
 /// A value with so many of the thresholds below it: the next threshold, or one more than the last.
-pub fn value_of_count(thresholds: &[i128], count: usize) -> i128
+pub fn value_of_count(thresholds: &[i128], count: u32) -> i128
     requires some { 0 < length thresholds.now }
     requires small { All IsSmall thresholds.now }
     ensures value { result ≡ representative thresholds.now count }
     ensures small { unsigned_abs result ≤ 2 ^ 40 + 2 }
 {
-    if count < thresholds.len() {
-        thresholds[count]
+    if (count as usize) < thresholds.len() {
+        thresholds[count as usize]
     } else {
         thresholds[thresholds.len() - 1] + 1
     }

@@ -1,18 +1,15 @@
 //! The thresholds of an atom: the least set that holds the seeds and to which every letter lowers its members (own). The found
 //! thresholds are their own work list. Costs one look-up for each threshold and letter.
 
-ghost use Rattle.std.specs.Prelude.{◌≡◌, ℕ, ℤ, pos, ◌+◌, ◌*◌, ◌^◌, ◌<◌, ◌≤◌, ◌+ℤ◌, ◌-ℤ◌, List, [], ◌∷◌, length, All, unsigned_abs, OnOk, IfOk, IfErr};
-ghost use Rattle.lash_model.specs.Thresholds.{lowered_by, Among};
+ghost use Rattle.std.specs.Prelude.{◌≡◌, ℕ, ℤ, pos, ◌+◌, ◌*◌, ◌^◌, ◌<◌, ◌≤◌, ◌+ℤ◌, ◌-ℤ◌, ◌<ℤ◌, List, [], ◌∷◌, length, All, unsigned_abs, OnOk, IfOk, IfErr};
+ghost use Rattle.std.specs.List.{AllPairs};
+ghost use Rattle.std.specs.List.Sorted.{IsPermutation};
+ghost use Rattle.lash_model.specs.Thresholds.{lowered_by, Among, AreThresholds};
 ghost use Rattle.linear_atoms.specs.Closing.{IsSmall, IsSmallTotal, Met, IsStarting, IsClosing, IsOverfull, entry};
 
 use indexmap::IndexSet;
 use std::alloc::Global;
-
-#[derive(Clone, Copy, Debug, PartialEq, Eq)]
-pub enum BuildError {
-    Heavy,
-    Memory,
-}
+use step_tables::BuildError;
 
 /// The bound for values before a letter of the total: the floor of the quotient.
 fn lowered(base: u32, total: &i128, bound: &i128) -> i128
@@ -141,6 +138,7 @@ fn close(
     requires empty { found.old.keys ≡ [] }
     requires room { room < 2 ^ 32 }
     ensures closed { OnOk result (IsClosing base totals.now seeds.now found.new.keys (length found.new.keys) 0) }
+    ensures small { OnOk result (All IsSmall found.new.keys) }
     ensures within { OnOk result (length found.new.keys ≤ room) }
     ensures heavy { IfErr result (λ e. e ≡ BuildError.Heavy → IsOverfull base totals.now seeds.now room) }
 {
@@ -169,6 +167,7 @@ fn lower_all(
     requires room { room < 2 ^ 32 }
     requires started { IsClosing base totals.now seeds.now found.old.keys 0 0 }
     ensures closed { OnOk result (IsClosing base totals.now seeds.now found.new.keys (length found.new.keys) 0) }
+    ensures small { OnOk result (All IsSmall found.new.keys) }
     ensures within { OnOk result (length found.new.keys ≤ room) }
     ensures heavy { IfErr result (λ e. e ≡ BuildError.Heavy → IsOverfull base totals.now seeds.now room) }
 {
@@ -181,4 +180,49 @@ fn lower_all(
         at += 1;
     }
     Ok(())
+}
+
+/// The found thresholds, rising.
+fn in_order(alloc: Global, found: &IndexSet<i128>) -> Result<Vec<i128>, BuildError>
+    ensures rising { IfOk result (λ v. AllPairs (λ x y. x <ℤ y) v.items) }
+    ensures same { IfOk result (λ v. IsPermutation found.now.keys v.items) }
+    ensures never { IfErr result (λ e. e ≡ BuildError.Memory) }
+{
+    let mut rising = match Vec::from_slice(alloc, found.as_slice()) {
+        Ok(rising) => rising,
+        Err(_) => return Err(BuildError::Memory),
+    };
+    match rising.sort() {
+        Ok(()) => Ok(rising),
+        Err(_) => Err(BuildError::Memory),
+    }
+}
+
+/// The thresholds of the seeds, rising, where there are at most so many as there is room for. The totals are those of all letters.
+pub fn thresholds(
+    alloc: Global,
+    base: u32,
+    totals: &[i128],
+    seeds: &[i128],
+    room: usize,
+) -> Result<Vec<i128>, BuildError>
+    requires base { 2 ≤ base }
+    requires few { base ≤ 16 }
+    requires totals { All (IsSmallTotal base) totals.now }
+    requires seeds { All IsSmall seeds.now }
+    requires room { room < 2 ^ 32 }
+    ensures thresholds { IfOk result (λ v. AreThresholds base (length totals.now) (entry totals.now) seeds.now v.items) }
+    ensures small { IfOk result (λ v. All IsSmall v.items) }
+    ensures within { IfOk result (λ v. length v.items ≤ room) }
+    ensures heavy { IfErr result (λ e. e ≡ BuildError.Heavy → IsOverfull base totals.now seeds.now room) }
+{
+    let mut found = IndexSet::new(alloc);
+    match close(&mut found, base, totals, seeds, room) {
+        Ok(()) => {}
+        Err(error) => return Err(error),
+    }
+    match in_order(alloc, &found) {
+        Ok(rising) => Ok(rising),
+        Err(error) => Err(error),
+    }
 }

@@ -1,15 +1,15 @@
 //! What the digits of letters add to a linear term: the sum of coefficient times digit, for each letter once.
 
-ghost use Rattle.std.specs.Prelude.{◌≡◌, ℕ, ℤ, pos, ◌+◌, ◌-◌, ◌*◌, ◌^◌, ◌<◌, ◌≤◌, ◌+ℤ◌, ◌*ℤ◌, List, length, All, unsigned_abs, IfOk, slice_index_or};
+ghost use Rattle.std.specs.Prelude.{◌≡◌, ℕ, ℤ, pos, ◌+◌, ◌-◌, ◌*◌, ◌^◌, ◌<◌, ◌≤◌, ◌+ℤ◌, ◌*ℤ◌, List, length, All, unsigned_abs, IfOk, IfErr};
 ghost use Rattle.lash_model.specs.Formulas.{coefficient_sum};
 ghost use Rattle.lash_model.specs.Thresholds.{letter_total};
 ghost use Rattle.linear_atoms.specs.Closing.{IsSmallTotal};
 ghost use Rattle.linear_atoms.specs.Totals.{AreTotals};
 
-use crate::BuildError;
 use digit_codes::{letter_digit, Base};
 use formula_core::Linear;
 use std::alloc::Global;
+use step_tables::BuildError;
 
 /// The sum with one coefficient times a digit more.
 fn with_product(sum: &i128, coefficient: &i128, digit: u32) -> i128
@@ -54,6 +54,7 @@ pub fn letter_totals(
     requires high { base ≤ 16 }
     ensures totals { IfOk result (λ v. AreTotals atom.now.terms base tracks v.items) }
     ensures small { IfOk result (λ v. All (IsSmallTotal base) v.items) }
+    ensures never { IfErr result (λ e. e ≡ BuildError.Memory) }
 {
     let mut totals = Vec::new(alloc);
     for letter in 0..base.radix().pow(tracks) {
