@@ -8,3 +8,6 @@ mod word;
 pub use base::Base;
 pub use letter::letter_digit;
 pub use word::{Lasso, Word};
+
+#[cfg(test)]
+mod tests;

@@ -66,9 +66,9 @@ walk_counts kind a r n ts t h c e x [] letters = refl
 walk_counts kind a r n ts t h c e x (l ∷ w) letters = ap (λ q. go t.rows (r ^ n) q w) (
     c.rows (below ts x) l (few ts x) letters.0
     ∙ step_counts r (letter_total a.terms r n l) ts (representative ts (below ts x)) x h
-        (λ b m. closed r (r ^ n) (letter_total a.terms r n) (seeds kind a.constant) ts e l letters.0 b m)
-        (below-representative ts (below ts x) e.rising (some_member ts a.constant (e.complete a.constant (seed_is_threshold r (r ^ n) (letter_total a.terms r n) (seeds kind a.constant) a.constant (bound_given kind a.constant)))) (few ts x)))
-  ∙ walk_counts kind a r n ts t h c e ((pos r *ℤ x) +ℤ letter_total a.terms r n l) w letters.1
+    (λ b m. closed r (r ^ n) (letter_total a.terms r n) (seeds kind a.constant) ts e l letters.0 b m)
+    (below-representative ts (below ts x) e.rising (some_member ts a.constant (e.complete a.constant (seed_is_threshold r (r ^ n) (letter_total a.terms r n) (seeds kind a.constant) a.constant (bound_given kind a.constant)))) (few ts x)))
+    ∙ walk_counts kind a r n ts t h c e ((pos r *ℤ x) +ℤ letter_total a.terms r n l) w letters.1
 
 le_true : (a b : ℤ) → a ≤ℤ b → int_le a b ≡ true
 le_true a b h = grind (arith, ints)
@@ -85,19 +85,20 @@ pass_alike ts b x y e m h = by_lt_z b y (λ over. absurd (omega (arith, ints, h,
 
 same_test : (ts : List ℤ) (b x y : ℤ) → below ts x ≡ below ts y → Among b ts → int_le x b ≡ int_le y b
 same_test ts b x y e m = by_lt_z b x
-  (λ over. le_false x b over ∙ sym (le_false y b (not_parted ts y x b (sym e) m over)))
-  (λ under. le_true x b under ∙ sym (le_true y b (pass_alike ts b x y e m under)))
+    (λ over. le_false x b over ∙ sym (le_false y b (not_parted ts y x b (sym e) m over)))
+    (λ under. le_true x b under ∙ sym (le_true y b (pass_alike ts b x y e m under)))
 
 test_from_below : (b x : ℤ) → int_le b x ≡ int_lt (b -ℤ pos 1) x
 test_from_below b x = grind (arith, ints)
 
 same_below : (ts : List ℤ) (b x y : ℤ) → below ts x ≡ below ts y → Among b ts → int_lt b x ≡ int_lt b y
 same_below ts b x y e m = by_lt_z b x
-  (λ over. lt_true b x over ∙ sym (lt_true b y (not_parted ts y x b (sym e) m over)))
-  (λ under. lt_false b x under ∙ sym (lt_false b y (pass_alike ts b x y e m under)))
+    (λ over. lt_true b x over ∙ sym (lt_true b y (not_parted ts y x b (sym e) m over)))
+    (λ under. lt_false b x under ∙ sym (lt_false b y (pass_alike ts b x y e m under)))
   where
     lt_true : (a b : ℤ) → a <ℤ b → int_lt a b ≡ true
     lt_true a b h = grind (arith, ints)
+
     lt_false : (a b : ℤ) → b ≤ℤ a → int_lt a b ≡ false
     lt_false a b h = grind (arith, ints)
 
@@ -125,6 +126,7 @@ passing_means Equal a ns = (λ h. both_ways (both_true (int_le (total a.terms ns
   where
     both_ways : (int_le (total a.terms ns) a.constant ≡ true) × (int_le a.constant (total a.terms ns) ≡ true) → total a.terms ns ≡ a.constant
     both_ways h = omega (arith, ints, le_from_true (total a.terms ns) a.constant h.0, le_from_true a.constant (total a.terms ns) h.1)
+
     passed : total a.terms ns ≡ a.constant → int_le (total a.terms ns) a.constant && int_le a.constant (total a.terms ns) ≡ true
     passed e = ap (λ k. k && int_le a.constant (total a.terms ns)) (le_true (total a.terms ns) a.constant (omega (arith, ints, e))) ∙ le_true a.constant (total a.terms ns) (omega (arith, ints, e))
 
@@ -133,14 +135,14 @@ iff_same p q P e h = (λ x. h.0 (subst IsTrue e x), λ y. subst IsTrue (sym e) (
 
 accepts_by : (kind : Comparison) (a : Linear) (r n : ℕ) (ts : List ℤ) (t : Table) → 0 < r → CountsThresholds kind a r n ts t → AreThresholds r (r ^ n) (letter_total a.terms r n) (seeds kind a.constant) ts → (sign : ℕ) (w : List ℕ) → sign < 2 ^ n → AllByRecursion (λ l. l < r ^ n) w → nat_eq (slice_index t.outs (go t.rows (r ^ n) (slice_index t.roots sign) w)) 1 ≡ passes kind (total a.terms (values r n sign w)) a.constant
 accepts_by kind a r n ts t h c e sign w s letters =
-  let x : ℤ = run r (neg_ℤ (sign_total a.terms n sign)) (map (letter_total a.terms r n) w) in
-  let counted : go t.rows (r ^ n) (slice_index t.roots sign) w ≡ below ts x = ap (λ q. go t.rows (r ^ n) q w) (c.roots sign s) ∙ walk_counts kind a r n ts t h c e (neg_ℤ (sign_total a.terms n sign)) w letters in
-  let member : (b : ℤ) → Among b (seeds kind a.constant) → Among b ts = λ b m. e.complete b (seed_is_threshold r (r ^ n) (letter_total a.terms r n) (seeds kind a.constant) b m) in
-  ap (λ q. nat_eq (slice_index t.outs q) 1) counted
-  ∙ ap (λ k. nat_eq k 1) (c.outs (below ts x) (few ts x))
-  ∙ one_test (passes kind (representative ts (below ts x)) a.constant)
-  ∙ same_passing kind ts a.constant (representative ts (below ts x)) x member (below-representative ts (below ts x) e.rising (some_member ts a.constant (member a.constant (bound_given kind a.constant))) (few ts x))
-  ∙ ap (λ v. passes kind v a.constant) (sym (total_of_values a.terms r n sign w))
+    let x : ℤ = run r (neg_ℤ (sign_total a.terms n sign)) (map (letter_total a.terms r n) w) in
+    let counted : go t.rows (r ^ n) (slice_index t.roots sign) w ≡ below ts x = ap (λ q. go t.rows (r ^ n) q w) (c.roots sign s) ∙ walk_counts kind a r n ts t h c e (neg_ℤ (sign_total a.terms n sign)) w letters in
+    let member : (b : ℤ) → Among b (seeds kind a.constant) → Among b ts = λ b m. e.complete b (seed_is_threshold r (r ^ n) (letter_total a.terms r n) (seeds kind a.constant) b m) in
+    ap (λ q. nat_eq (slice_index t.outs q) 1) counted
+    ∙ ap (λ k. nat_eq k 1) (c.outs (below ts x) (few ts x))
+    ∙ one_test (passes kind (representative ts (below ts x)) a.constant)
+    ∙ same_passing kind ts a.constant (representative ts (below ts x)) x member (below-representative ts (below ts x) e.rising (some_member ts a.constant (member a.constant (bound_given kind a.constant))) (few ts x))
+    ∙ ap (λ v. passes kind v a.constant) (sym (total_of_values a.terms r n sign w))
 
 -- a table that counts the thresholds of an atom stands for it
 pub counting_stands : (kind : Comparison) (a : Linear) (r n : ℕ) (ts : List ℤ) (t : Table) → 0 < r → CountsThresholds kind a r n ts t → AreThresholds r (r ^ n) (letter_total a.terms r n) (seeds kind a.constant) ts → StandsForWhole t (holds (atom kind a))
@@ -151,7 +153,8 @@ counting_stands kind a r n ts t h c e = record {
   where
     shape : t.base ^ t.tracks ≡ r ^ n
     shape = ap (λ b. b ^ t.tracks) c.base ∙ ap (λ k. r ^ k) c.tracks
+
     each : (sign : ℕ) (w : List ℕ) → sign < 2 ^ n → AllByRecursion (λ l. l < r ^ n) w → IsTrue (accepts_word t sign w) ↔ holds (atom kind a) (values t.base t.tracks sign w) 1
     each sign w s ls = iff_same (accepts_word t sign w) (passes kind (total a.terms (values t.base t.tracks sign w)) a.constant) (holds (atom kind a) (values t.base t.tracks sign w) 1)
-      (ap (λ k. nat_eq (slice_index t.outs (go t.rows k (slice_index t.roots sign) w)) 1) shape ∙ accepts_by kind a r n ts t h c e sign w s ls ∙ ap (λ v. passes kind (total a.terms v) a.constant) (sym (ap (λ b. values b t.tracks sign w) c.base ∙ ap (λ k. values r k sign w) c.tracks)))
-      (passing_means kind a (values t.base t.tracks sign w))
+        (ap (λ k. nat_eq (slice_index t.outs (go t.rows k (slice_index t.roots sign) w)) 1) shape ∙ accepts_by kind a r n ts t h c e sign w s ls ∙ ap (λ v. passes kind (total a.terms v) a.constant) (sym (ap (λ b. values b t.tracks sign w) c.base ∙ ap (λ k. values r k sign w) c.tracks)))
+        (passing_means kind a (values t.base t.tracks sign w))

@@ -31,8 +31,10 @@ numerator_is_gain r n i x h = sym (gain-form r (r ^ length x.cycle - 1) (diff 0 
   where
     one_more : (k : ℕ) → 0 < k → k ≡ suc (k - 1)
     one_more k h = omega arith
+
     upto_stem : (x : Lasso) → run r (diff 0 (sign_bit n i x.sign)) (track_digits r n i (x.whole ++ x.stem)) ≡ (pos (r ^ length x.stem) *ℤ value r n i x.sign x.whole) +ℤ pos (spelled r n i x.stem)
     upto_stem x = ap (run r (diff 0 (sign_bit n i x.sign))) (track_digits-append r n i x.whole x.stem) ∙ run-append r (diff 0 (sign_bit n i x.sign)) (track_digits r n i x.whole) (track_digits r n i x.stem) ∙ spelled_is_run r n i x.stem (run r (diff 0 (sign_bit n i x.sign)) (track_digits r n i x.whole)) ∙ ap (λ y. (pos (r ^ length x.stem) *ℤ y) +ℤ pos (spelled r n i x.stem)) (sym (value_is_run r n i x.sign x.whole))
+
     regroup : (p k s t : ℕ) (v : ℤ) → (pos k *ℤ ((pos p *ℤ v) +ℤ pos s)) +ℤ pos t ≡ (pos (p * k) *ℤ v) +ℤ pos (k * s + t)
     regroup p k s t v = by_diff (λ v. (pos k *ℤ ((pos p *ℤ v) +ℤ pos s)) +ℤ pos t ≡ (pos (p * k) *ℤ v) +ℤ pos (k * s + t)) (λ a b. simp (pos_diff, diff_add, diff_mul) (diff_same _ _ _ _ (omega arith))) v
 
@@ -43,5 +45,6 @@ denominator_is_gap r x h = add_back (r ^ length x.stem) (r ^ length x.cycle) (po
   where
     shifted : (p k : ℕ) → p * k + p ≡ p * suc k
     shifted p k = omega arith
+
     add_back : (p k : ℕ) → 0 < k → p * (k - 1) + p ≡ p * k
     add_back p k h = shifted p (k - 1) ∙ ap (λ m. p * m) (omega arith)

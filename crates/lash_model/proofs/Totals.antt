@@ -16,8 +16,8 @@ use Rattle.lash_model.proofs.WordValues.{track_digits, value_is_run}
 
 ring_scale : (c : ℕ) (a x s : ℤ) → (a *ℤ (pos c *ℤ x)) +ℤ (pos c *ℤ s) ≡ pos c *ℤ ((a *ℤ x) +ℤ s)
 ring_scale c a x s = by_diff (λ a. (a *ℤ (pos c *ℤ x)) +ℤ (pos c *ℤ s) ≡ pos c *ℤ ((a *ℤ x) +ℤ s)) (λ p q.
-  by_diff (λ x. (diff p q *ℤ (pos c *ℤ x)) +ℤ (pos c *ℤ s) ≡ pos c *ℤ ((diff p q *ℤ x) +ℤ s)) (λ u v.
-  by_diff (λ s. (diff p q *ℤ (pos c *ℤ diff u v)) +ℤ (pos c *ℤ s) ≡ pos c *ℤ ((diff p q *ℤ diff u v) +ℤ s)) (λ k l.
+    by_diff (λ x. (diff p q *ℤ (pos c *ℤ x)) +ℤ (pos c *ℤ s) ≡ pos c *ℤ ((diff p q *ℤ x) +ℤ s)) (λ u v.
+    by_diff (λ s. (diff p q *ℤ (pos c *ℤ diff u v)) +ℤ (pos c *ℤ s) ≡ pos c *ℤ ((diff p q *ℤ diff u v) +ℤ s)) (λ k l.
     simp (pos_diff, diff_add, diff_mul) (diff_same _ _ _ _ (omega arith))) s) x) a
 
 ring_zero : (c : ℕ) → pos 0 ≡ pos c *ℤ pos 0
@@ -40,10 +40,10 @@ entry_combined r f g h e i (suc n) (suc p) = entry_combined r f g h e (suc i) n 
 
 ring_combined : (r : ℕ) (a x y s t : ℤ) → (a *ℤ ((pos r *ℤ x) +ℤ y)) +ℤ ((pos r *ℤ s) +ℤ t) ≡ (pos r *ℤ ((a *ℤ x) +ℤ s)) +ℤ ((a *ℤ y) +ℤ t)
 ring_combined r a x y s t = by_diff (λ a. (a *ℤ ((pos r *ℤ x) +ℤ y)) +ℤ ((pos r *ℤ s) +ℤ t) ≡ (pos r *ℤ ((a *ℤ x) +ℤ s)) +ℤ ((a *ℤ y) +ℤ t)) (λ p q.
-  by_diff (λ x. (diff p q *ℤ ((pos r *ℤ x) +ℤ y)) +ℤ ((pos r *ℤ s) +ℤ t) ≡ (pos r *ℤ ((diff p q *ℤ x) +ℤ s)) +ℤ ((diff p q *ℤ y) +ℤ t)) (λ b c.
-  by_diff (λ y. (diff p q *ℤ ((pos r *ℤ diff b c) +ℤ y)) +ℤ ((pos r *ℤ s) +ℤ t) ≡ (pos r *ℤ ((diff p q *ℤ diff b c) +ℤ s)) +ℤ ((diff p q *ℤ y) +ℤ t)) (λ d e.
-  by_diff (λ s. (diff p q *ℤ ((pos r *ℤ diff b c) +ℤ diff d e)) +ℤ ((pos r *ℤ s) +ℤ t) ≡ (pos r *ℤ ((diff p q *ℤ diff b c) +ℤ s)) +ℤ ((diff p q *ℤ diff d e) +ℤ t)) (λ f g.
-  by_diff (λ t. (diff p q *ℤ ((pos r *ℤ diff b c) +ℤ diff d e)) +ℤ ((pos r *ℤ diff f g) +ℤ t) ≡ (pos r *ℤ ((diff p q *ℤ diff b c) +ℤ diff f g)) +ℤ ((diff p q *ℤ diff d e) +ℤ t)) (λ h k.
+    by_diff (λ x. (diff p q *ℤ ((pos r *ℤ x) +ℤ y)) +ℤ ((pos r *ℤ s) +ℤ t) ≡ (pos r *ℤ ((diff p q *ℤ x) +ℤ s)) +ℤ ((diff p q *ℤ y) +ℤ t)) (λ b c.
+    by_diff (λ y. (diff p q *ℤ ((pos r *ℤ diff b c) +ℤ y)) +ℤ ((pos r *ℤ s) +ℤ t) ≡ (pos r *ℤ ((diff p q *ℤ diff b c) +ℤ s)) +ℤ ((diff p q *ℤ y) +ℤ t)) (λ d e.
+    by_diff (λ s. (diff p q *ℤ ((pos r *ℤ diff b c) +ℤ diff d e)) +ℤ ((pos r *ℤ s) +ℤ t) ≡ (pos r *ℤ ((diff p q *ℤ diff b c) +ℤ s)) +ℤ ((diff p q *ℤ diff d e) +ℤ t)) (λ f g.
+    by_diff (λ t. (diff p q *ℤ ((pos r *ℤ diff b c) +ℤ diff d e)) +ℤ ((pos r *ℤ diff f g) +ℤ t) ≡ (pos r *ℤ ((diff p q *ℤ diff b c) +ℤ diff f g)) +ℤ ((diff p q *ℤ diff d e) +ℤ t)) (λ h k.
     simp (pos_diff, diff_add, diff_mul) (diff_same _ _ _ _ (omega arith))) t) s) y) x) a
 
 -- the total of such a vector
@@ -67,8 +67,8 @@ neg_diff p q = omega (arith, ints)
 
 ring_negated : (a x s : ℤ) → (a *ℤ neg_ℤ x) +ℤ neg_ℤ s ≡ neg_ℤ ((a *ℤ x) +ℤ s)
 ring_negated a x s = by_diff (λ a. (a *ℤ neg_ℤ x) +ℤ neg_ℤ s ≡ neg_ℤ ((a *ℤ x) +ℤ s)) (λ p q.
-  by_diff (λ x. (diff p q *ℤ neg_ℤ x) +ℤ neg_ℤ s ≡ neg_ℤ ((diff p q *ℤ x) +ℤ s)) (λ u v.
-  by_diff (λ s. (diff p q *ℤ neg_ℤ (diff u v)) +ℤ neg_ℤ s ≡ neg_ℤ ((diff p q *ℤ diff u v) +ℤ s)) (λ k l.
+    by_diff (λ x. (diff p q *ℤ neg_ℤ x) +ℤ neg_ℤ s ≡ neg_ℤ ((diff p q *ℤ x) +ℤ s)) (λ u v.
+    by_diff (λ s. (diff p q *ℤ neg_ℤ (diff u v)) +ℤ neg_ℤ s ≡ neg_ℤ ((diff p q *ℤ diff u v) +ℤ s)) (λ k l.
     simp (neg_diff, diff_add, diff_mul) (diff_same _ _ _ _ (omega arith))) s) x) a
 
 -- minus a vector has minus the total

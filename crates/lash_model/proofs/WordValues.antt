@@ -35,6 +35,7 @@ spelled-append r n i (x ∷ v) w = ap (λ k. digit r n i x * k + spelled r n i (
   where
     regroup : (d p q s t : ℕ) → d * (p * q) + (s * q + t) ≡ (d * p + s) * q + t
     regroup d p q s t = omega arith
+
     power : (r : ℕ) (v w : List ℕ) → r ^ length (v ++ w) ≡ r ^ length v * r ^ length w
     power r [] w = rw (pow-zero r) (omega arith)
     power r (x ∷ v) w = next_power r (length (v ++ w)) ∙ ap (λ k. r * k) (power r v w) ∙ again r (r ^ length v) (r ^ length w) ∙ ap (λ k. k * r ^ length w) (sym (next_power r (length v)))
@@ -83,6 +84,7 @@ spelled_is_run r n i (l ∷ w) x = spelled_is_run r n i w ((pos r *ℤ x) +ℤ p
   where
     by_parts : (r p d s a b : ℕ) → (pos p *ℤ ((pos r *ℤ diff a b) +ℤ pos d)) +ℤ pos s ≡ (pos (r * p) *ℤ diff a b) +ℤ pos (d * p + s)
     by_parts r p d s a b = simp (pos_diff, diff_add, diff_mul) (diff_same _ _ _ _ (omega arith))
+
     regroup : (r p d s : ℕ) (x : ℤ) → (pos p *ℤ ((pos r *ℤ x) +ℤ pos d)) +ℤ pos s ≡ (pos (r * p) *ℤ x) +ℤ pos (d * p + s)
     regroup r p d s x = by_diff (λ x. (pos p *ℤ ((pos r *ℤ x) +ℤ pos d)) +ℤ pos s ≡ (pos (r * p) *ℤ x) +ℤ pos (d * p + s)) (by_parts r p d s) x
 

@@ -43,8 +43,8 @@ fracs_text (suc n) = codes "frac" ++ (numbers_text (suc n ∷ []) ++ codes "\n")
 -- the whole text, for the variables' names and sorts and a table
 abbrev pub text_of : List (List ℕ × Sort) → Table → List ℕ
 text_of vs t =
-  codes "lash 1\nbase" ++ (numbers_text (t.base ∷ []) ++ (codes "\nvars" ++ (variables_text vs ++
-  (codes "\nint" ++ (numbers_text (ints t ∷ []) ++ (codes "\n" ++ (fracs_text (fracs t) ++
-  (codes "roots" ++ (numbers_text t.roots ++ (codes "\n" ++
-  (lines_text (λ q. out_text t (slice_index t.outs q)) t.rows (letters t) 0 (ints t) ++
-  (lines_text (λ q. answer_text (slice_index t.colours q)) t.frac_rows (letters t) 0 (fracs t) ++ codes "end\n"))))))))))))
+    codes "lash 1\nbase" ++ (numbers_text (t.base ∷ []) ++ (codes "\nvars" ++ (variables_text vs ++
+    (codes "\nint" ++ (numbers_text (ints t ∷ []) ++ (codes "\n" ++ (fracs_text (fracs t) ++
+    (codes "roots" ++ (numbers_text t.roots ++ (codes "\n" ++
+    (lines_text (λ q. out_text t (slice_index t.outs q)) t.rows (letters t) 0 (ints t) ++
+    (lines_text (λ q. answer_text (slice_index t.colours q)) t.frac_rows (letters t) 0 (fracs t) ++ codes "end\n"))))))))))))

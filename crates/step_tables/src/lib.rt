@@ -16,3 +16,6 @@ pub use errors::{BuildError, ExploreError};
 pub use explored::Explored;
 pub use machine::{Key, Machine};
 pub use table::Table;
+
+#[cfg(test)]
+mod tests;

@@ -1,0 +1,138 @@
+//! Tables of zeros and the pairs of two small tables. A diagram of `x <= 3` has the rows 0 2, 1 1, 3 3, 4 4 and 4 4, one of
+//! `x >= 0` the rows 0 0 and 1 1, both the roots 0 and 1: five pairs are reached, and at weight 2 they have 25 cells.
+
+ghost use Rattle.std.specs.Prelude.{◌≡◌, ℕ, ◌+◌, ◌*◌, ◌<◌, [], ◌∷◌, slice_index, IfOk, OnOk};
+ghost use Rattle.digit_codes.specs.Reading.{lasso_of};
+
+use super::*;
+use digit_codes::{Base, Lasso, Memory, Word};
+use std::alloc::Global;
+use std::process::Abort;
+use std::test::Fail;
+
+const LEFT: [u32; 10] = [0, 2, 1, 1, 3, 3, 4, 4, 4, 4];
+
+const RIGHT: [u32; 4] = [0, 0, 1, 1];
+
+/// Pairs of a state of each table.
+#[derive(Drop)]
+struct Pairs;
+
+fn entry(rows: &[u32], at: u64) -> u32
+    ensures { result ≡ slice_index rows.now at }
+{
+    if at < rows.len() as u64 {
+        rows[at as usize]
+    } else {
+        0
+    }
+}
+
+fn write_pair(left: u32, right: u32, into: &mut Key) -> Result<(), Memory>
+    ensures { OnOk result (into.new.items ≡ left ∷ right ∷ []) }
+{
+    into.clear();
+    match into.extend_from_slice(&[left, right]) {
+        Ok(()) => Ok(()),
+        Err(_) => Err(Memory),
+    }
+}
+
+impl Machine for Pairs {
+    ghost use Rattle.std.specs.Prelude.{ℕ, ◌+◌, ◌*◌, [], ◌∷◌, length, slice_index, nat_eq};
+
+    ghost meaning = { λ _. record { width = 2; starts = (0 ∷ 0 ∷ []) ∷ (1 ∷ 1 ∷ []) ∷ []; step = λ k l. slice_index (0 ∷ 2 ∷ 1 ∷ 1 ∷ 3 ∷ 3 ∷ 4 ∷ 4 ∷ 4 ∷ 4 ∷ []) (slice_index k 0 * 2 + l) ∷ slice_index (0 ∷ 0 ∷ 1 ∷ 1 ∷ []) (slice_index k 1 * 2 + l) ∷ []; weight = λ _. 2; is_proper = λ k. nat_eq (length k) 2 } };
+
+    fn letters(&self) -> u32 {
+        2
+    }
+
+    fn starts(&self) -> usize {
+        2
+    }
+
+    fn start(&mut self, at: usize, into: &mut Key) -> Result<(), Memory> {
+        if at == 0 {
+            write_pair(0, 0, into)
+        } else {
+            write_pair(1, 1, into)
+        }
+    }
+
+    fn step(&mut self, from: &Key, letter: u32, into: &mut Key) -> Result<(), Memory> {
+        let key = from.as_slice();
+        let left = entry(&LEFT, u64::from(key[0]) * 2 + u64::from(letter));
+        let right = entry(&RIGHT, u64::from(key[1]) * 2 + u64::from(letter));
+        write_pair(left, right, into)
+    }
+
+    fn weight(&self, _key: &Key) -> u64 {
+        2
+    }
+}
+
+/// The lasso of a sign and two letters, one for the stem and one for the cycle.
+fn lasso(alloc: Global, sign: u32, stem: u32, cycle: u32) -> Result<Lasso, Memory>
+    ensures { IfOk result (λ x. lasso_of x ≡ record { sign = sign; whole = []; stem = stem ∷ []; cycle = cycle ∷ [] }) }
+{
+    let mut x = Lasso {
+        sign,
+        whole: Word::empty(alloc),
+        stem: Word::empty(alloc),
+        cycle: Word::empty(alloc),
+    };
+    match x.stem.push(stem) {
+        Ok(()) => {}
+        Err(Memory) => return Err(Memory),
+    }
+    match x.cycle.push(cycle) {
+        Ok(()) => Ok(x),
+        Err(Memory) => Err(Memory),
+    }
+}
+
+#[test]
+fn pairs_and_zeros(rt: HostRuntime) -> Result<(), Fail> {
+    let alloc = rt.alloc();
+    let found = explore(alloc, &mut Pairs, 25)?;
+    assert_eq!(rt; found.cells(), 25);
+    assert_eq!(rt; found.len(), 5);
+    for (at, key) in [[0, 0], [1, 1], [2, 0], [3, 0], [4, 0]].iter().enumerate() {
+        assert_eq!(rt; found.key(at as u32), key.as_slice());
+    }
+    assert_eq!(rt; found.rows(), [0, 2, 1, 1, 3, 3, 4, 4, 4, 4].as_slice());
+    assert_eq!(rt; found.starts(), [0, 1].as_slice());
+    match explore(alloc, &mut Pairs, 24) {
+        Ok(_) => assert!(rt; false, "25 cells pass the limit 24"),
+        Err(error) => assert_eq!(rt; error, ExploreError::Heavy),
+    }
+    zeros(&rt, alloc)
+}
+
+// A diagram of zeros answers no, and with the output 1 yes. Of two fraction states that both go to the first, which is yes, the
+// cycle of one letter stays there; once letter 1 leads to the second, the stem of that letter ends there after two turns.
+fn zeros(rt: &impl Abort, alloc: Global) -> Result<(), Fail> {
+    let cells = Plain::new(alloc, 5)?;
+    assert_eq!(rt; cells.len(), 5);
+    assert_eq!(rt; cells.get(4), 0);
+    let two = Base::new(2).ok_or("2 is a base")?;
+    let minus = lasso(alloc, 1, 1, 1)?;
+    let mut diagram = Table::<Plain>::blank(alloc, two, 1, 2, 0)?;
+    assert_eq!(rt;
+        (diagram.letters(), diagram.ints(), diagram.fracs()),
+        (2, 2, 0)
+    );
+    assert_eq!(rt;
+        (diagram.root(1), diagram.int_step(1, 1), diagram.out(1)),
+        (0, 0, 0)
+    );
+    assert!(rt; !diagram.accepts(&minus));
+    diagram.set_out(0, 1);
+    assert!(rt; diagram.accepts(&minus));
+    let mut table = Table::<Plain>::blank(alloc, two, 1, 1, 2)?;
+    table.set_colour(0, true);
+    assert!(rt; table.accepts(&minus));
+    table.set_frac(0, 1, 1);
+    assert!(rt; !table.accepts(&minus));
+    Ok(())
+}
