@@ -1,0 +1,3 @@
+pub mod Spellings
+pub mod TermsGood
+pub mod FormulasGood
