@@ -1,8 +1,9 @@
 -- How what a sink holds grows, put by put.
-use Rattle.std.proofs.Common.{◌≡◌, ℕ, List, [], ◌++◌, take, drop, Option, Some, None, refl, ap, sym, ◌∙◌, append_assoc}
+use Rattle.std.proofs.Common.{◌≡◌, ℕ, List, [], ◌++◌, take, drop, Option, Some, None, Result, refl, subst, ap, sym, ◌∙◌, append_assoc}
 use Rattle.std.proofs.lemmas.List.{take-append-drop, append-nil}
+use Rattle.std.proofs.lemmas.Result.{MatchResult-weaker}
 use Rattle.std.specs.Io.KnownBytes.{append_known}
-use Rattle.lash_io.specs.Sinks.{Holds, HoldsPart}
+use Rattle.lash_io.specs.Sinks.{Holds, HoldsPart, Puts}
 
 -- what is held after two puts, one after the other
 append_known-append_known : (known : Option (List ℕ)) (xs ys : List ℕ) → append_known (append_known known xs) ys ≡ append_known known (xs ++ ys)
@@ -56,3 +57,18 @@ front_is_part held after bytes n is_after = record {
   parted = sym (take-append-drop n bytes);
   held = ap Some is_after;
 }
+
+-- a put, then one with either answer
+pub puts_then : {T E : Type 0} (before middle after : Option (List ℕ)) (xs ys : List ℕ) (answer : Result T E) → Holds before middle xs
+    → Puts middle after answer ys → Puts before after answer (xs ++ ys)
+puts_then before middle after xs ys answer first second =
+    MatchResult-weaker answer second
+    (λ _ held. holds_then before middle after xs ys first held)
+    (λ _ part. part_then before middle after xs ys first part)
+
+-- puts, then one that failed, where more was to follow
+pub puts_failed : (before middle after : Option (List ℕ)) (xs ys more whole : List ℕ) → Holds before middle xs → HoldsPart middle after ys
+    → whole ≡ xs ++ ys ++ more → HoldsPart before after whole
+puts_failed before middle after xs ys more whole first second is_whole =
+    let P : List ℕ → Type 0 = λ zs. HoldsPart before after zs in
+    subst P (sym is_whole) (part_more before after (xs ++ ys) more (part_then before middle after xs ys first second))
