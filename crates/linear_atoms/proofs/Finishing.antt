@@ -7,6 +7,7 @@ use Rattle.std.proofs.lemmas.List.Elements.{All-weaker}
 use mathlib.Core.Logic.{inl}
 use Rattle.lash_model.specs.Formulas.{Linear}
 use Rattle.lash_model.specs.Meaning.{holds}
+use Rattle.lash_model.specs.Tables.{Table}
 use Rattle.lash_model.specs.Standing.{StandsForWhole}
 use Rattle.lash_model.specs.Thresholds.{Comparison, AtMost, Equal, atom, seeds, letter_total, lowered_by, lowered, Among, IsThreshold, AreThresholds, atom_cells, TooManyThresholds, CountsThresholds, IsAtomTable, IsHeavyAtom, below, representative}
 use Rattle.lash_model.proofs.AtomTables.{counting_stands, seed_is_threshold}
@@ -79,3 +80,21 @@ bound_given Equal b = inl refl
 -- the bound is a threshold, so there is one
 pub some_threshold : (kind : Comparison) (bound : ℤ) (r width : ℕ) (total : ℕ → ℤ) (ts : List ℤ) → AreThresholds r width total (seeds kind bound) ts → 0 < length ts
 some_threshold kind bound r width total ts a = some_member ts bound (a.complete bound (seed_is_threshold r width total (seeds kind bound) bound (bound_given kind bound)))
+
+few_cells : (count room width limit : ℕ) → 0 < count → count ≤ room → (0 < room → (room + 1) * (width + 1) ≤ limit) → (count + 1) * (width + 1) ≤ limit
+few_cells count room width limit some h fits = at_most (count + 1) (room + 1) (width + 1) limit (omega (arith, h)) (fits (omega (arith, some, h)))
+  where
+    at_most : (a b w limit : ℕ) → a ≤ b → b * w ≤ limit → a * w ≤ limit
+    at_most a b w limit h k = grind arith
+
+-- the filled table is the atom's
+pub atom_table : (kind : Comparison) (a : Linear) (r n : ℕ) (totals ts : List ℤ) (room limit : ℕ) (k : Kept) → AreTotals a.terms r n totals → AreThresholds r (length totals) (entry totals) (seeds kind a.constant) ts → length ts ≤ room → (0 < room → (room + 1) * (r ^ n + 1) ≤ limit) → IsFilling kind a r n totals ts (2 ^ n) ((length ts + 1) * length totals) (length ts + 1) k → IsAtomTable kind a r n limit k.table
+atom_table kind a r n totals ts room limit k t e few fits f = record {
+  found = ts;
+  thresholds = atom_thresholds a.terms r n totals (seeds kind a.constant) ts t e;
+  counts = filled_counts kind a r n totals ts k t f;
+  within = few_cells (length ts) room (r ^ n) limit (some_threshold kind a.constant r (length totals) (entry totals) ts e) few fits;
+}
+
+pub atom_stands : (kind : Comparison) (a : Linear) (r n limit : ℕ) (t : Table) → 0 < r → IsAtomTable kind a r n limit t → StandsForWhole t (holds (atom kind a))
+atom_stands kind a r n limit t h i = counting_stands kind a r n i.found t h i.counts i.thresholds
