@@ -1,7 +1,7 @@
 //! Tables of zeros and the pairs of two small tables. A diagram of `x <= 3` has the rows 0 2, 1 1, 3 3, 4 4 and 4 4, one of
 //! `x >= 0` the rows 0 0 and 1 1, both the roots 0 and 1: five pairs are reached, and at weight 2 they have 25 cells.
 
-ghost use Rattle.std.specs.Prelude.{◌≡◌, ℕ, ◌+◌, ◌*◌, ◌<◌, [], ◌∷◌, slice_index, IfOk, OnOk};
+ghost use Rattle.std.specs.Prelude.{◌≡◌, ℕ, ◌+◌, ◌*◌, ◌<◌, ◌^◌, [], ◌∷◌, length, slice_index, IfOk, OnOk};
 ghost use Rattle.digit_codes.specs.Reading.{lasso_of};
 
 use super::*;
@@ -94,45 +94,55 @@ fn lasso(alloc: Global, sign: u32, stem: u32, cycle: u32) -> Result<Lasso, Memor
 #[test]
 fn pairs_and_zeros(rt: HostRuntime) -> Result<(), Fail> {
     let alloc = rt.alloc();
-    let found = explore(alloc, &mut Pairs, 25)?;
-    assert_eq!(rt; found.cells(), 25);
-    assert_eq!(rt; found.len(), 5);
-    for (at, key) in [[0, 0], [1, 1], [2, 0], [3, 0], [4, 0]].iter().enumerate() {
-        assert_eq!(rt; found.key(at as u32), key.as_slice());
-    }
+    five_keys(&rt, alloc, &mut Pairs)?;
+    let cells = Plain::new(alloc, 5)?;
+    assert_eq!(rt; (cells.len(), cells.bound()), (5, 1 << 32));
+    let two = Base::new(2).ok_or("2 is a base")?;
+    let minus = lasso(alloc, 1, 1, 1)?;
+    diagram(&rt, alloc, two, &minus)?;
+    fractions(&rt, alloc, two, &minus)
+}
+
+// Five keys of 25 cells, in the order of their least paths, and at one cell less none.
+fn five_keys<M: Machine>(rt: &impl Abort, alloc: Global, machine: &mut M) -> Result<(), Fail>
+    requires { length (M.meaning machine.old).starts < 2 ^ 32 }
+{
+    let found = explore(alloc, machine, 25)?;
+    assert_eq!(rt; (found.len(), found.cells()), (5, 25));
+    assert_eq!(rt; found.key(2), [2, 0].as_slice());
+    assert_eq!(rt; found.key(4), [4, 0].as_slice());
     assert_eq!(rt; found.rows(), [0, 2, 1, 1, 3, 3, 4, 4, 4, 4].as_slice());
     assert_eq!(rt; found.starts(), [0, 1].as_slice());
-    match explore(alloc, &mut Pairs, 24) {
+    match explore(alloc, machine, 24) {
         Ok(_) => assert!(rt; false, "25 cells pass the limit 24"),
         Err(error) => assert_eq!(rt; error, ExploreError::Heavy),
     }
-    zeros(&rt, alloc)
+    Ok(())
 }
 
-// A diagram of zeros answers no, and with the output 1 yes. Of two fraction states that both go to the first, which is yes, the
-// cycle of one letter stays there; once letter 1 leads to the second, the stem of that letter ends there after two turns.
-fn zeros(rt: &impl Abort, alloc: Global) -> Result<(), Fail> {
-    let cells = Plain::new(alloc, 5)?;
-    assert_eq!(rt; cells.len(), 5);
-    assert_eq!(rt; cells.get(4), 0);
-    let two = Base::new(2).ok_or("2 is a base")?;
-    let minus = lasso(alloc, 1, 1, 1)?;
-    let mut diagram = Table::<Plain>::blank(alloc, two, 1, 2, 0)?;
-    assert_eq!(rt;
-        (diagram.letters(), diagram.ints(), diagram.fracs()),
-        (2, 2, 0)
-    );
-    assert_eq!(rt;
-        (diagram.root(1), diagram.int_step(1, 1), diagram.out(1)),
-        (0, 0, 0)
-    );
-    assert!(rt; !diagram.accepts(&minus));
-    diagram.set_out(0, 1);
-    assert!(rt; diagram.accepts(&minus));
+// A diagram of zeros answers no, and with the output 1 yes.
+fn diagram(rt: &impl Abort, alloc: Global, two: Base, minus: &Lasso) -> Result<(), Fail>
+    requires base { two ≡ 2 }
+    requires minus { lasso_of minus.now ≡ record { sign = 1; whole = []; stem = 1 ∷ []; cycle = 1 ∷ [] } }
+{
+    let mut table = Table::<Plain>::blank(alloc, two, 1, 2, 0)?;
+    assert_eq!(rt; table.ints(), 2);
+    assert!(rt; !table.accepts(minus));
+    table.set_out(0, 1);
+    assert!(rt; table.accepts(minus));
+    Ok(())
+}
+
+// Of two fraction states that both go to the first, which is yes, the cycle of one letter stays there; once letter 1 leads to the
+// second, the stem of that letter ends there after two turns.
+fn fractions(rt: &impl Abort, alloc: Global, two: Base, minus: &Lasso) -> Result<(), Fail>
+    requires base { two ≡ 2 }
+    requires minus { lasso_of minus.now ≡ record { sign = 1; whole = []; stem = 1 ∷ []; cycle = 1 ∷ [] } }
+{
     let mut table = Table::<Plain>::blank(alloc, two, 1, 1, 2)?;
     table.set_colour(0, true);
-    assert!(rt; table.accepts(&minus));
+    assert!(rt; table.accepts(minus));
     table.set_frac(0, 1, 1);
-    assert!(rt; !table.accepts(&minus));
+    assert!(rt; !table.accepts(minus));
     Ok(())
 }
