@@ -12,6 +12,7 @@ use Rattle.script_tokens.specs.declared.kind.Kind.{Kind}
 use Rattle.script_tokens.specs.declared.kind.Kind.TheVariants as kind
 use Rattle.script_tokens.specs.Kinds.{number_of}
 use Rattle.script_tokens.specs.Tokens.{Token, Name, Number, Sign, Bad, PlacedToken}
+use Rattle.script_grammar.specs.Statements.{Bound, AtMost as BoundAtMost, Below as BoundBelow, AtLeast as BoundAtLeast, Above as BoundAbove, Equal as BoundEqual, spell_bound, bound_view}
 use Rattle.script_grammar.specs.Views.{Quantifier, Exists, Forall, Adding, Plus, Minus, Relation, AtMost, Below, AtLeast, Above, Equal, Unequal, spell_quantifier, spell_sort, spell_adding, spell_truth, spell_relation, entry, same_kind, lookup, table_view, name_view, number_view, one_less, positive_view, quantifier_view, sort_view, adding_view, truth_view, relation_view, place_if, is_kind, place_view, at}
 
 kind_with : ℕ → Kind
@@ -232,3 +233,16 @@ bare_positive = record { fits = fits; back = λ a. refl }
 
 pub positive_spelling : Spelling (placed_view positive_view) (placed_mk (λ n. Number (suc n)))
 positive_spelling = placed_spelling positive_view (λ n. Number (suc n)) bare_positive
+
+bare_bound : Spelling bound_view (λ a. Sign (spell_bound a))
+bare_bound = spelling spell_bound (entry spell_bound BoundAtMost ∷ entry spell_bound BoundBelow ∷ entry spell_bound BoundAtLeast ∷ entry spell_bound BoundAbove ∷ entry spell_bound BoundEqual ∷ []) (refl, (refl, (refl, (refl, (refl, tt))))) back
+  where
+    back : (a : Bound) → bound_view (Sign (spell_bound a)) ≡ Some a
+    back BoundAtMost = refl
+    back BoundBelow = refl
+    back BoundAtLeast = refl
+    back BoundAbove = refl
+    back BoundEqual = refl
+
+pub bound_spelling : Spelling (placed_view bound_view) (placed_mk (λ a. Sign (spell_bound a)))
+bound_spelling = placed_spelling bound_view (λ a. Sign (spell_bound a)) bare_bound

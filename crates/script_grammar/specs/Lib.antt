@@ -1,6 +1,7 @@
 pub mod Views
 pub mod Terms
 pub mod Formulas
+pub mod Statements
 pub use Rattle.parser_laws.specs.Parsing
 pub use Rattle.parser_laws.specs.Places
 pub use Rattle.parser_laws.specs.Placed
