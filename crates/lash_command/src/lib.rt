@@ -2,4 +2,10 @@
 #![tactic(auto)]
 
 mod form;
+mod program;
+mod show;
+mod status;
 mod taking;
+
+pub use program::run;
+pub use status::Status;

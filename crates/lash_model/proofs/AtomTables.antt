@@ -1,19 +1,19 @@
 -- A table that counts thresholds stands for its atom.
-use Rattle.std.proofs.Common.{◌≡◌, ℕ, zero, suc, ◌+◌, ◌-◌, ◌*◌, ◌^◌, ◌≤◌, ◌<◌, Bool, true, false, ◌&&◌, List, [], ◌∷◌, ◌++◌, length, map, arith, refl, ◌∙◌, sym, ap, subst}
+use Rattle.std.proofs.Common.{◌≡◌, ℕ, ◌+◌, ◌^◌, ◌<◌, Bool, true, false, ◌&&◌, List, [], ◌∷◌, ◌++◌, length, map, arith, refl, ◌∙◌, sym, ap, subst}
 use Rattle.std.proofs.Math.IntN.{ℤ, pos, neg_ℤ, ◌+ℤ◌, ◌-ℤ◌, ◌*ℤ◌}
 use Rattle.std.specs.Prelude.{◌≤ℤ◌, ◌<ℤ◌, ◌↔◌, int_lt, int_le, All, IsTrue, nat_eq, slice_index}
-use Rattle.std.specs.List.{slice_index_or, AllPairs, AllByRecursion}
+use Rattle.std.specs.List.{AllByRecursion}
 use Rattle.std.proofs.lemmas.Int.{ints, by_lt_z}
 use Rattle.std.proofs.lemmas.List.Elements.{recursion_from_All, All-head, All-tail}
-use mathlib.Core.Logic.{◌⊎◌, inl, inr}
+use mathlib.Core.Logic.{inl, inr}
 use Rattle.integer_laws.specs.Runs.{run}
 use Rattle.integer_laws.proofs.Ring.{times_one}
 use Rattle.graph_laws.specs.Walks.{go}
-use Rattle.lash_model.specs.Formulas.{Linear, Formula, Le, Eq}
+use Rattle.lash_model.specs.Formulas.{Linear}
 use Rattle.lash_model.specs.Words.{values}
 use Rattle.lash_model.specs.Meaning.{total, holds}
 use Rattle.lash_model.specs.Tables.{Table, letters}
-use Rattle.lash_model.specs.Acceptance.{int_state, accepts_word}
+use Rattle.lash_model.specs.Acceptance.{accepts_word}
 use Rattle.lash_model.specs.Standing.{StandsForWhole}
 use Rattle.lash_model.specs.Thresholds.{Comparison, AtMost, Equal, atom, seeds, passes, letter_total, sign_total, lowered_by, lowered, Among, IsThreshold, AreThresholds, one_if, below, representative, CountsThresholds}
 use Rattle.lash_model.proofs.Totals.{total_of_values}

@@ -1,22 +1,15 @@
 -- The point of a lasso by differences: a numerator is a gain of the track's run, the denominator the difference of two powers.
-use Rattle.std.proofs.Common.{◌≡◌, ℕ, zero, suc, ◌+◌, ◌-◌, ◌*◌, ◌^◌, ◌≤◌, ◌<◌, List, [], ◌∷◌, ◌++◌, length, arith, refl, ◌∙◌, sym, ap, subst}
-use Rattle.std.proofs.Math.IntN.{ℤ, pos, ◌+ℤ◌, ◌-ℤ◌, ◌*ℤ◌}
-use Rattle.std.proofs.Math.Nat.{pow-suc, pow-zero}
+use Rattle.std.proofs.Common.{◌≡◌, ℕ, suc, ◌+◌, ◌-◌, ◌*◌, ◌^◌, ◌<◌, List, ◌++◌, length, arith, ◌∙◌, sym, ap}
+use Rattle.std.proofs.Math.IntN.{ℤ, pos, ◌+ℤ◌, ◌*ℤ◌}
 use Rattle.integer_laws.specs.Differences.{diff}
 use Rattle.integer_laws.specs.Runs.{run, gain}
 use Rattle.integer_laws.proofs.Ring.{diff_same, diff_add, diff_mul, by_diff, pos_diff}
-use Rattle.integer_laws.proofs.Reading.{run-append, run-shift, gain-form}
-use Rattle.lash_model.specs.Letters.{digit, sign_bit}
-use Rattle.lash_model.specs.Words.{spelled, value}
+use Rattle.integer_laws.proofs.Reading.{run-append, gain-form}
+use Rattle.lash_model.specs.Letters.{sign_bit}
+use Rattle.lash_model.specs.Words.{spelled, value, track_digits}
 use Rattle.lash_model.specs.Lassos.{Lasso, denominator, numerator}
-use Rattle.lash_model.proofs.WordValues.{track_digits, track_digits-append, length-track_digits, spelled_is_run, value_is_run}
-
-product_positive : (a b : ℕ) → 0 < a → 0 < b → 0 < a * b
-product_positive a b h g = grind arith
-
-pub power_positive : (r k : ℕ) → 0 < r → 0 < r ^ k
-power_positive r zero h = rw (pow-zero r) (omega arith)
-power_positive r (suc k) h = rw (pow-suc r k) (product_positive (r ^ k) r (power_positive r k h) h)
+use Rattle.lash_model.proofs.Digits.{power_positive}
+use Rattle.lash_model.proofs.WordValues.{track_digits-append, length-track_digits, spelled_is_run, value_is_run}
 
 from_zero : (r n i : ℕ) (v : List ℕ) → run r (pos 0) (track_digits r n i v) ≡ pos (spelled r n i v)
 from_zero r n i v = spelled_is_run r n i v (pos 0) ∙ no_start (r ^ length v) (spelled r n i v)

@@ -1,14 +1,12 @@
 -- The meaning of a formula does not tell a vector of fractions from the same vector over a multiple of its denominator.
-use Rattle.std.proofs.Common.{◌≡◌, ℕ, zero, suc, ◌+◌, ◌*◌, List, [], ◌∷◌, ◌++◌, arith, refl, ◌∙◌, sym, ap, subst}
-use Rattle.std.proofs.Math.IntN.{ℤ, pos, ◌+ℤ◌, ◌*ℤ◌}
-use Rattle.std.specs.Prelude.{◌≤ℤ◌}
-use mathlib.Core.Logic.{◌⊎◌, inl, inr}
-use Rattle.integer_laws.specs.Differences.{diff}
+use Rattle.std.proofs.Common.{◌≡◌, ℕ, suc, ◌+◌, ◌*◌, List, [], ◌∷◌, ◌++◌, arith, ◌∙◌, sym, ap, subst}
+use Rattle.std.proofs.Math.IntN.{ℤ, pos, ◌*ℤ◌}
+use mathlib.Core.Logic.{inl, inr}
 use Rattle.integer_laws.specs.Vectors.{scale}
-use Rattle.integer_laws.proofs.Ring.{diff_same, diff_mul, by_diff, pos_diff, le_scaled, le_unscaled, eq_unscaled, times_assoc, times_comm}
+use Rattle.integer_laws.proofs.Ring.{diff_same, diff_mul, by_diff, pos_diff, le_scaled, le_unscaled, eq_unscaled}
 use Rattle.integer_laws.proofs.Entries.{scale-append, scale-scale, scale-product}
-use Rattle.lash_model.specs.Formulas.{Sort, Int, Real, Linear, Formula, Le, Eq, Not, And, Or, Exists}
-use Rattle.lash_model.specs.Meaning.{total, holds, IsWhole, Solves}
+use Rattle.lash_model.specs.Formulas.{Sort, Int, Real, Formula, Le, Eq, Not, And, Or, Exists}
+use Rattle.lash_model.specs.Meaning.{holds, IsWhole, Solves}
 use Rattle.lash_model.proofs.Totals.{total-scale}
 
 shift_denominator : (c d : ℕ) (b : ℤ) → pos c *ℤ (b *ℤ pos d) ≡ b *ℤ pos (c * d)

@@ -1,6 +1,6 @@
 -- The total of a linear term over vectors: of scaled vectors, of sums, and of the values of a word as a run.
-use Rattle.std.proofs.Common.{◌≡◌, ℕ, zero, suc, ◌+◌, ◌*◌, ◌≤◌, ◌<◌, List, [], ◌∷◌, ◌++◌, length, map, arith, refl, ◌∙◌, sym, ap}
-use Rattle.std.proofs.Math.IntN.{ℤ, pos, neg_ℤ, ◌+ℤ◌, ◌-ℤ◌, ◌*ℤ◌}
+use Rattle.std.proofs.Common.{◌≡◌, ℕ, zero, suc, List, [], ◌∷◌, map, arith, refl, ◌∙◌, ap}
+use Rattle.std.proofs.Math.IntN.{ℤ, pos, neg_ℤ, ◌+ℤ◌, ◌*ℤ◌}
 use Rattle.std.proofs.lemmas.Int.{ints}
 use Rattle.std.specs.List.{slice_index_or}
 use Rattle.integer_laws.specs.Differences.{diff}
@@ -9,10 +9,10 @@ use Rattle.integer_laws.specs.Vectors.{scale, vector, vector_from}
 use Rattle.integer_laws.proofs.Ring.{diff_same, diff_add, diff_mul, by_diff, pos_diff}
 use Rattle.integer_laws.proofs.Entries.{entry-scale, vector_from_same}
 use Rattle.lash_model.specs.Letters.{digit, sign_bit}
-use Rattle.lash_model.specs.Words.{value, values}
+use Rattle.lash_model.specs.Words.{value, values, track_digits}
 use Rattle.lash_model.specs.Meaning.{total}
 use Rattle.lash_model.specs.Thresholds.{letter_total, sign_total}
-use Rattle.lash_model.proofs.WordValues.{track_digits, value_is_run}
+use Rattle.lash_model.proofs.WordValues.{value_is_run}
 
 ring_scale : (c : ℕ) (a x s : ℤ) → (a *ℤ (pos c *ℤ x)) +ℤ (pos c *ℤ s) ≡ pos c *ℤ ((a *ℤ x) +ℤ s)
 ring_scale c a x s = by_diff (λ a. (a *ℤ (pos c *ℤ x)) +ℤ (pos c *ℤ s) ≡ pos c *ℤ ((a *ℤ x) +ℤ s)) (λ p q.

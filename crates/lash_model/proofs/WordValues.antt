@@ -1,15 +1,13 @@
 -- Values of words: a letter at the end, the value as a run from minus the sign bit, and the bounds of a value.
-use Rattle.std.proofs.Common.{◌≡◌, ℕ, zero, suc, ◌+◌, ◌-◌, ◌*◌, ◌^◌, ◌≤◌, ◌<◌, List, [], ◌∷◌, ◌++◌, length, map, arith, refl, ◌∙◌, sym, ap, subst, zero-add}
-use Rattle.std.proofs.Math.IntN.{ℤ, pos, negsuc, ◌+ℤ◌, ◌-ℤ◌, ◌*ℤ◌}
+use Rattle.std.proofs.Common.{◌≡◌, ℕ, suc, ◌+◌, ◌*◌, ◌^◌, List, [], ◌∷◌, ◌++◌, length, arith, refl, ◌∙◌, sym, ap}
+use Rattle.std.proofs.Math.IntN.{ℤ, pos, ◌+ℤ◌, ◌*ℤ◌}
 use Rattle.std.proofs.Math.Nat.{pow-suc, pow-zero}
 use Rattle.std.proofs.lemmas.Int.{ints}
-use Rattle.std.proofs.lemmas.List.{length-append}
 use Rattle.integer_laws.specs.Differences.{diff}
 use Rattle.integer_laws.specs.Runs.{run}
-use Rattle.integer_laws.proofs.Ring.{diff_same, diff_add, diff_sub, diff_mul, pos_diff, by_diff}
-use Rattle.integer_laws.proofs.Reading.{run-push, run-append}
+use Rattle.integer_laws.proofs.Ring.{diff_same, diff_add, diff_mul, pos_diff, by_diff}
 use Rattle.lash_model.specs.Letters.{digit, sign_bit}
-use Rattle.lash_model.specs.Words.{spelled, value}
+use Rattle.lash_model.specs.Words.{spelled, value, track_digits}
 
 next_power : (r n : ℕ) → r ^ suc n ≡ r * r ^ n
 next_power r n = omega (arith, pow-suc r n)
@@ -58,10 +56,6 @@ value-push r n i sign w l = value_by r n i sign (w ++ l ∷ []) ∙ ap (λ k. di
   where
     regroup : (r s b p d : ℕ) → diff (r * s + d) (b * (r * p)) ≡ (pos r *ℤ diff s (b * p)) +ℤ pos d
     regroup r s b p d = simp (pos_diff, diff_add, diff_mul) (diff_same _ _ _ _ (omega arith))
-
--- the digits of a track, as integers
-unfoldable pub track_digits : ℕ → ℕ → ℕ → List ℕ → List ℤ
-track_digits r n i w = map (λ l. pos (digit r n i l)) w
 
 pub track_digits-append : (r n i : ℕ) (v w : List ℕ) → track_digits r n i (v ++ w) ≡ track_digits r n i v ++ track_digits r n i w
 unfolding track_digits

@@ -3,7 +3,7 @@
 use Rattle.std.specs.Prelude.{ℕ, ◌+◌, ◌-◌, ◌*◌, ◌^◌, ◌<◌, ◌≤◌, ◌≡◌, ◌⊎◌, Bool, true, false, ◌&&◌, List, [], ◌∷◌, length, All, ℤ, pos, neg_ℤ, ◌+ℤ◌, ◌-ℤ◌, ◌*ℤ◌, ◌<ℤ◌, int_lt, int_le}
 use Rattle.std.specs.List.{AllPairs, AllByRecursion, slice_index_or}
 use Rattle.std.specs.Int.{int_div_euclid}
-use Rattle.integer_laws.specs.Vectors.{vector, vector_from}
+use Rattle.integer_laws.specs.Vectors.{vector}
 use Rattle.lash_model.specs.Letters.{digit, sign_bit}
 use Rattle.lash_model.specs.Formulas.{Linear, Formula, Le, Eq}
 use Rattle.lash_model.specs.Meaning.{total}
