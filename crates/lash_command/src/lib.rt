@@ -7,5 +7,5 @@ mod show;
 mod status;
 mod taking;
 
-pub use program::run;
+pub use program::{report, run};
 pub use status::Status;

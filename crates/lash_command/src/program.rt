@@ -57,8 +57,8 @@ fn answer<S: Source, K: Sink>(
     show(alloc, number, out)
 }
 
-/// Writes the line of a status.
-fn report<E: Sink>(status: Status, err: &mut E)
+/// Writes the line of a status, all of it or, where a fault of the sink is counted, a part.
+pub fn report<E: Sink>(status: Status, err: &mut E)
     ensures { IsReported (line_of status) (E.held err.old) (E.held err.new) (E.faults err.old) (E.faults err.new) }
 {
     match err.put(line(status)) {

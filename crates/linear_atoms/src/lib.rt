@@ -10,3 +10,6 @@ mod totals;
 
 pub use atom::atom_int;
 pub use kind::AtomKind;
+
+#[cfg(test)]
+mod tests;

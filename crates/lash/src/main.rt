@@ -1,0 +1,40 @@
+//! The program: it collects the words, takes standard input, and writes to standard output and standard error.
+#![tactic(auto)]
+
+use lash_command::{report, run, Status};
+use lash_io::{StdSink, StdSource};
+use std::env;
+use std::io::{self, stderr, stdin, stdout};
+use std::process::ExitCode;
+
+/// The words after the program's name, or how the program ends without them: a word is no text, or there was no memory.
+fn words(rt: &HostRuntime) -> Result<Vec<String>, Status> {
+    let all = match env::args(rt) {
+        Ok(all) => all,
+        Err(error) => {
+            return Err(match error.kind() {
+                io::ErrorKind::OutOfMemory => Status::NoMemory,
+                _ => Status::Usage,
+            });
+        }
+    };
+    match all.skip(1).collect(rt.alloc()) {
+        Ok(words) => Ok(words),
+        Err(_) => Err(Status::NoMemory),
+    }
+}
+
+fn main(rt: HostRuntime) -> ExitCode {
+    let mut errors = StdSink::new(rt.stderr());
+    let words = match words(&rt) {
+        Ok(words) => words,
+        Err(status) => {
+            report(status, &mut errors);
+            return ExitCode::from(status.code());
+        }
+    };
+    let mut input = StdSource::new(rt.reader());
+    let mut output = StdSink::new(io::writer(&rt));
+    let status = run(rt.alloc(), &words, &mut input, &mut output, &mut errors);
+    ExitCode::from(status.code())
+}
