@@ -7,7 +7,7 @@ mod word;
 
 pub use base::Base;
 pub use letter::letter_digit;
-pub use word::{Lasso, Memory, Word};
+pub use word::{Lasso, Word};
 
 #[cfg(test)]
 mod tests;

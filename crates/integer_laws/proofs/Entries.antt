@@ -1,10 +1,9 @@
 -- Laws of vectors: scaling, and vectors made by place.
 use Rattle.std.proofs.Common.{◌≡◌, ℕ, zero, suc, ◌+◌, ◌*◌, ◌≤◌, ◌<◌, List, [], ◌∷◌, ◌++◌, length, arith, refl, ◌∙◌, ap}
-use Rattle.std.proofs.Math.IntN.{ℤ, pos, ◌+ℤ◌, ◌*ℤ◌}
+use Rattle.std.proofs.Math.IntN.{ℤ, pos, ◌*ℤ◌}
 use Rattle.std.specs.List.{slice_index_or}
-use Rattle.integer_laws.specs.Differences.{diff}
 use Rattle.integer_laws.specs.Vectors.{scale, vector_from, vector}
-use Rattle.integer_laws.proofs.Ring.{diff_same, diff_add, diff_mul, by_diff, pos_diff, times_zero}
+use Rattle.integer_laws.proofs.Ring.{diff_same, diff_mul, by_diff, pos_diff}
 
 pub scale-append : (c : ℕ) (xs : List ℤ) (x : ℤ) → scale c (xs ++ x ∷ []) ≡ scale c xs ++ (pos c *ℤ x) ∷ []
 unfolding scale

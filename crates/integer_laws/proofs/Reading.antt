@@ -17,8 +17,8 @@ run-push r x ds d = run-append r x ds (d ∷ [])
 
 ring_shift : (p r : ℕ) (x d n m : ℤ) → n ≡ (pos p *ℤ d) +ℤ m → (pos p *ℤ ((pos r *ℤ x) +ℤ d)) +ℤ m ≡ (pos (r * p) *ℤ x) +ℤ n
 ring_shift p r x d n m e = by_diff (λ x. (pos p *ℤ ((pos r *ℤ x) +ℤ d)) +ℤ m ≡ (pos (r * p) *ℤ x) +ℤ n) (λ a b.
-  subst (λ n. (pos p *ℤ ((pos r *ℤ diff a b) +ℤ d)) +ℤ m ≡ (pos (r * p) *ℤ diff a b) +ℤ n) (sym e) (by_diff (λ d. (pos p *ℤ ((pos r *ℤ diff a b) +ℤ d)) +ℤ m ≡ (pos (r * p) *ℤ diff a b) +ℤ ((pos p *ℤ d) +ℤ m)) (λ f g.
-  by_diff (λ m. (pos p *ℤ ((pos r *ℤ diff a b) +ℤ diff f g)) +ℤ m ≡ (pos (r * p) *ℤ diff a b) +ℤ ((pos p *ℤ diff f g) +ℤ m)) (λ u v. simp (pos_diff, diff_add, diff_mul) (diff_same _ _ _ _ (omega arith))) m) d)) x
+    subst (λ n. (pos p *ℤ ((pos r *ℤ diff a b) +ℤ d)) +ℤ m ≡ (pos (r * p) *ℤ diff a b) +ℤ n) (sym e) (by_diff (λ d. (pos p *ℤ ((pos r *ℤ diff a b) +ℤ d)) +ℤ m ≡ (pos (r * p) *ℤ diff a b) +ℤ ((pos p *ℤ d) +ℤ m)) (λ f g.
+    by_diff (λ m. (pos p *ℤ ((pos r *ℤ diff a b) +ℤ diff f g)) +ℤ m ≡ (pos (r * p) *ℤ diff a b) +ℤ ((pos p *ℤ diff f g) +ℤ m)) (λ u v. simp (pos_diff, diff_add, diff_mul) (diff_same _ _ _ _ (omega arith))) m) d)) x
 
 from_zero : (r : ℕ) (d : ℤ) → (pos r *ℤ pos 0) +ℤ d ≡ d
 from_zero r d = by_diff (λ d. (pos r *ℤ pos 0) +ℤ d ≡ d) (λ a b. simp (pos_diff, diff_add, diff_mul) (diff_same _ _ _ _ (omega arith))) d
@@ -37,7 +37,7 @@ run-shift r x (d ∷ ds) = run-shift r ((pos r *ℤ x) +ℤ d) ds ∙ ring_shift
 
 ring_gain : (k : ℕ) (a c x y : ℤ) → x ≡ (pos k *ℤ a) +ℤ c → y ≡ (pos k *ℤ x) +ℤ c → y -ℤ x ≡ pos k *ℤ (x -ℤ a)
 ring_gain k a c x y e f = subst (λ y. y -ℤ x ≡ pos k *ℤ (x -ℤ a)) (sym f) (subst (λ x. ((pos k *ℤ x) +ℤ c) -ℤ x ≡ pos k *ℤ (x -ℤ a)) (sym e) (by_diff (λ a. ((pos k *ℤ ((pos k *ℤ a) +ℤ c)) +ℤ c) -ℤ ((pos k *ℤ a) +ℤ c) ≡ pos k *ℤ (((pos k *ℤ a) +ℤ c) -ℤ a)) (λ p q.
-  by_diff (λ c. ((pos k *ℤ ((pos k *ℤ diff p q) +ℤ c)) +ℤ c) -ℤ ((pos k *ℤ diff p q) +ℤ c) ≡ pos k *ℤ (((pos k *ℤ diff p q) +ℤ c) -ℤ diff p q)) (λ u v. simp (pos_diff, diff_add, diff_sub, diff_mul) (diff_same _ _ _ _ (omega arith))) c) a))
+    by_diff (λ c. ((pos k *ℤ ((pos k *ℤ diff p q) +ℤ c)) +ℤ c) -ℤ ((pos k *ℤ diff p q) +ℤ c) ≡ pos k *ℤ (((pos k *ℤ diff p q) +ℤ c) -ℤ diff p q)) (λ u v. simp (pos_diff, diff_add, diff_sub, diff_mul) (diff_same _ _ _ _ (omega arith))) c) a))
 
 -- one cycle more in the stem multiplies the gain by r to the length of the cycle
 pub gain-unroll : (r : ℕ) (x : ℤ) (u v : List ℤ) → gain r x (u ++ v) v ≡ pos (r ^ length v) *ℤ gain r x u v

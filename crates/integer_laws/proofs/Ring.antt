@@ -1,6 +1,6 @@
 -- Ring identities and order over ℤ. An integer is read as p - q with natural p and q, and `simp` pushes sums and products
 -- through; what is left is an identity over ℕ, which `omega` proves.
-use Rattle.std.proofs.Common.{◌≡◌, ℕ, zero, suc, ◌+◌, ◌*◌, ◌/◌, ◌<◌, ◌≤◌, arith, refl, ◌∙◌, sym, ap, subst}
+use Rattle.std.proofs.Common.{◌≡◌, ℕ, suc, ◌+◌, ◌*◌, ◌<◌, ◌≤◌, arith, refl, ◌∙◌, sym, ap, subst}
 use Rattle.std.proofs.Math.IntN.{ℤ, pos, negsuc, ◌+ℤ◌, ◌-ℤ◌, ◌*ℤ◌, neg_ℤ, pos-*ℤ-pos, pos-*ℤ-negsuc, negsuc-*ℤ-pos, negsuc-*ℤ-negsuc}
 use Rattle.std.proofs.lemmas.Int.{ints, by_lt_z}
 use Rattle.std.proofs.Math.Nat.{le_of_mul-le-mul_left}
@@ -84,17 +84,17 @@ diff_lt p q s t h = omega (arith, ints)
 
 pub times_comm : (a b : ℤ) → a *ℤ b ≡ b *ℤ a
 times_comm a b = by_diff (λ a. a *ℤ b ≡ b *ℤ a) (λ p q.
-  by_diff (λ b. diff p q *ℤ b ≡ b *ℤ diff p q) (λ s t. simp diff_mul (diff_same _ _ _ _ (omega arith))) b) a
+    by_diff (λ b. diff p q *ℤ b ≡ b *ℤ diff p q) (λ s t. simp diff_mul (diff_same _ _ _ _ (omega arith))) b) a
 
 pub times_assoc : (a b c : ℤ) → (a *ℤ b) *ℤ c ≡ a *ℤ (b *ℤ c)
 times_assoc a b c = by_diff (λ a. (a *ℤ b) *ℤ c ≡ a *ℤ (b *ℤ c)) (λ p q.
-  by_diff (λ b. (diff p q *ℤ b) *ℤ c ≡ diff p q *ℤ (b *ℤ c)) (λ s t.
-  by_diff (λ c. (diff p q *ℤ diff s t) *ℤ c ≡ diff p q *ℤ (diff s t *ℤ c)) (λ u v. simp diff_mul (diff_same _ _ _ _ (omega arith))) c) b) a
+    by_diff (λ b. (diff p q *ℤ b) *ℤ c ≡ diff p q *ℤ (b *ℤ c)) (λ s t.
+    by_diff (λ c. (diff p q *ℤ diff s t) *ℤ c ≡ diff p q *ℤ (diff s t *ℤ c)) (λ u v. simp diff_mul (diff_same _ _ _ _ (omega arith))) c) b) a
 
 pub times_sum : (a b c : ℤ) → a *ℤ (b +ℤ c) ≡ (a *ℤ b) +ℤ (a *ℤ c)
 times_sum a b c = by_diff (λ a. a *ℤ (b +ℤ c) ≡ (a *ℤ b) +ℤ (a *ℤ c)) (λ p q.
-  by_diff (λ b. diff p q *ℤ (b +ℤ c) ≡ (diff p q *ℤ b) +ℤ (diff p q *ℤ c)) (λ s t.
-  by_diff (λ c. diff p q *ℤ (diff s t +ℤ c) ≡ (diff p q *ℤ diff s t) +ℤ (diff p q *ℤ c)) (λ u v. simp (diff_add, diff_mul) (diff_same _ _ _ _ (omega arith))) c) b) a
+    by_diff (λ b. diff p q *ℤ (b +ℤ c) ≡ (diff p q *ℤ b) +ℤ (diff p q *ℤ c)) (λ s t.
+    by_diff (λ c. diff p q *ℤ (diff s t +ℤ c) ≡ (diff p q *ℤ diff s t) +ℤ (diff p q *ℤ c)) (λ u v. simp (diff_add, diff_mul) (diff_same _ _ _ _ (omega arith))) c) b) a
 
 pub sum_times : (a b c : ℤ) → (a +ℤ b) *ℤ c ≡ (a *ℤ c) +ℤ (b *ℤ c)
 sum_times a b c = times_comm (a +ℤ b) c ∙ times_sum c a b ∙ ap (λ x. x +ℤ (c *ℤ b)) (times_comm c a) ∙ ap (λ x. (a *ℤ c) +ℤ x) (times_comm c b)
@@ -120,12 +120,12 @@ unscaled_diff c p q s t h = diff_le p q s t (le_of_times c (p + t) (s + q) (omeg
 -- a natural factor keeps the order
 pub le_scaled : (c : ℕ) (x y : ℤ) → x ≤ℤ y → (pos c *ℤ x) ≤ℤ (pos c *ℤ y)
 le_scaled c x y = by_diff (λ x. x ≤ℤ y → (pos c *ℤ x) ≤ℤ (pos c *ℤ y)) (λ p q.
-  by_diff (λ y. (diff p q) ≤ℤ y → (pos c *ℤ diff p q) ≤ℤ (pos c *ℤ y)) (λ s t. scaled_diff c p q s t) y) x
+    by_diff (λ y. (diff p q) ≤ℤ y → (pos c *ℤ diff p q) ≤ℤ (pos c *ℤ y)) (λ s t. scaled_diff c p q s t) y) x
 
 -- a positive factor reflects the order
 pub le_unscaled : (c : ℕ) (x y : ℤ) → (pos (suc c) *ℤ x) ≤ℤ (pos (suc c) *ℤ y) → x ≤ℤ y
 le_unscaled c x y = by_diff (λ x. (pos (suc c) *ℤ x) ≤ℤ (pos (suc c) *ℤ y) → x ≤ℤ y) (λ p q.
-  by_diff (λ y. (pos (suc c) *ℤ diff p q) ≤ℤ (pos (suc c) *ℤ y) → (diff p q) ≤ℤ y) (λ s t. unscaled_diff c p q s t) y) x
+    by_diff (λ y. (pos (suc c) *ℤ diff p q) ≤ℤ (pos (suc c) *ℤ y) → (diff p q) ≤ℤ y) (λ s t. unscaled_diff c p q s t) y) x
 
 -- and equality
 pub eq_unscaled : (c : ℕ) (x y : ℤ) → pos (suc c) *ℤ x ≡ pos (suc c) *ℤ y → x ≡ y

@@ -1,6 +1,6 @@
 -- Acceptance of words and lassos (Büchi and co-Büchi acceptance, on lassos): after as many turns of the cycle as there are fraction
 -- states, the run is on its loop.
-use Rattle.std.specs.Prelude.{ℕ, List, [], ◌∷◌, ◌++◌, length, slice_index, Bool, ◌&&◌, nat_eq}
+use Rattle.std.specs.Prelude.{ℕ, List, [], ◌∷◌, ◌++◌, slice_index, Bool, ◌&&◌, nat_eq}
 use Rattle.graph_laws.specs.Walks.{go, copies}
 use Rattle.lash_model.specs.Lassos.{Lasso}
 use Rattle.lash_model.specs.Tables.{Table, letters, fracs}

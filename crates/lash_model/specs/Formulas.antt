@@ -1,6 +1,6 @@
 -- Linear terms, and formulas of linear arithmetic over integers and reals. Variables are named by place: a formula over n
 -- variables uses the places 0 to n - 1, and the body of `Exists` is over one more, which it binds at place n.
-use Rattle.std.specs.Prelude.{ℕ, ◌<◌, ◌≡◌, List, [], ◌∷◌, All, ℤ, pos}
+use Rattle.std.specs.Prelude.{ℕ, ◌+◌, ◌^◌, ◌<◌, ◌≤◌, ◌≡◌, List, [], ◌∷◌, All, ℤ, pos, unsigned_abs}
 use Rattle.std.specs.List.{AllPairs}
 
 pub data Sort : Type 0 where
@@ -16,6 +16,16 @@ pub record Linear : Type 0 where
 pub record IsLinear (a : Linear) : Type 0 where
   pub rising : AllPairs (λ s t. s.0 < t.0) a.terms
   pub nonzero : All (λ t. t.1 ≡ pos 0 → ⊥) a.terms
+
+-- the sum of the magnitudes of the coefficients
+unfoldable pub coefficient_sum : List (ℕ × ℤ) → ℕ
+coefficient_sum [] = 0
+coefficient_sum (t ∷ ts) = unsigned_abs t.1 + coefficient_sum ts
+
+-- the coefficients are within 2 ^ 24 together, and the constant within 2 ^ 40
+pub record IsInside (a : Linear) : Type 0 where
+  pub coefficients : coefficient_sum a.terms ≤ 2 ^ 24
+  pub constant : unsigned_abs a.constant ≤ 2 ^ 40
 
 -- `Le` holds where the sum of coefficient times value is at most the constant, and `Eq` where it is equal
 pub data Formula : Type 0 where

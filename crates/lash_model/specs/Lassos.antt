@@ -1,7 +1,7 @@
 -- Lassos: a sign vector, a whole part, a point, and a fraction that is a stem and a cycle without end. They spell the vectors of
 -- fractions (values of ultimately periodic expansions).
 use Rattle.std.specs.Prelude.{ℕ, ◌+◌, ◌-◌, ◌*◌, ◌^◌, ◌<◌, List, length, All, ℤ, pos, ◌+ℤ◌, ◌*ℤ◌}
-use Rattle.integer_laws.specs.Vectors.{vector, vector_from}
+use Rattle.integer_laws.specs.Vectors.{vector}
 use Rattle.lash_model.specs.Words.{spelled, value}
 
 pub record Lasso : Type 0 where

@@ -1,8 +1,8 @@
 -- The meaning of formulas over fractions: a vector of fractions is a list of numerators with one positive denominator.
-use Rattle.std.specs.Prelude.{ℕ, suc, ◌*◌, ◌≡◌, ◌⊎◌, ◌↔◌, List, [], ◌∷◌, ◌++◌, ℤ, pos, ◌+ℤ◌, ◌*ℤ◌, ◌≤ℤ◌}
+use Rattle.std.specs.Prelude.{ℕ, suc, ◌*◌, ◌≡◌, ◌⊎◌, List, [], ◌∷◌, ◌++◌, ℤ, pos, ◌+ℤ◌, ◌*ℤ◌, ◌≤ℤ◌}
 use Rattle.std.specs.List.{slice_index_or}
 use Rattle.integer_laws.specs.Vectors.{scale}
-use Rattle.lash_model.specs.Formulas.{Sort, Int, Real, Linear, Formula, Le, Eq, Not, And, Or, Exists}
+use Rattle.lash_model.specs.Formulas.{Sort, Int, Real, Formula, Le, Eq, Not, And, Or, Exists}
 
 -- the sum of coefficient times entry; places past the vector's end count as 0
 unfoldable pub total : List (ℕ × ℤ) → List ℤ → ℤ

@@ -1,5 +1,5 @@
 -- Standing for a set. All encodings count: every length of the whole part, and both expansions of a number that has two.
-use Rattle.std.specs.Prelude.{ℕ, suc, zero, ◌^◌, ◌<◌, ◌≡◌, ◌↔◌, List, [], ◌∷◌, length, All, IsTrue, ℤ}
+use Rattle.std.specs.Prelude.{ℕ, suc, zero, ◌^◌, ◌<◌, ◌↔◌, List, [], ◌∷◌, All, IsTrue, ℤ}
 use Rattle.lash_model.specs.Lassos.{Lasso, IsLasso, denominator, numerators}
 use Rattle.lash_model.specs.Words.{values}
 use Rattle.lash_model.specs.Tables.{Table, letters, fracs, IsDiagram}

@@ -1,7 +1,7 @@
 -- Tables of automata. The integer part reads the letters of the whole part of a number, the fraction part those behind the point.
 -- A table without fraction states is a Number Decision Diagram, whose outputs are 1 for yes and 0 for no; any other is a Real
 -- Vector Automaton, whose outputs are fraction states.
-use Rattle.std.specs.Prelude.{ℕ, ◌+◌, ◌*◌, ◌^◌, ◌<◌, ◌≤◌, ◌≡◌, ◌≢◌, List, [], length, All, nat_eq, if◌then◌else◌}
+use Rattle.std.specs.Prelude.{ℕ, ◌+◌, ◌*◌, ◌^◌, ◌<◌, ◌≤◌, ◌≡◌, List, [], length, All, nat_eq, if◌then◌else◌}
 
 -- a root for each sign vector, flat rows of targets, an output for each integer state and a colour for each fraction state
 pub record Table : Type 0 where

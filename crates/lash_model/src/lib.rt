@@ -1,2 +1,72 @@
-//! The definitions of the product and their laws.
+//! The definitions of the product, and their laws: letters, words and lassos, formulas and their meaning, tables, acceptance and
+//! standing for a set.
 #![tactic(auto)]
+
+ghost use Rattle.std.specs.Prelude.{◌≡◌, ℕ, suc, ◌+◌, ◌-◌, ◌*◌, ◌^◌, ◌<◌, ◌≤◌, ◌↔◌, List, [], ◌∷◌, ◌++◌, length, All, map, ℤ, pos, negsuc, neg_ℤ, ◌+ℤ◌, ◌*ℤ◌};
+ghost use Rattle.std.specs.List.{AllByRecursion};
+ghost use Rattle.integer_laws.specs.Differences.{diff};
+ghost use Rattle.integer_laws.specs.Runs.{run, gain};
+ghost use Rattle.integer_laws.specs.Vectors.{scale};
+ghost use Rattle.lash_model.specs.Letters.{digits, number, AreDigits, digit, sign_bit, sign_letter};
+ghost use Rattle.lash_model.specs.Words.{value, values, track_digits, IsBounded, SpellsNumber};
+ghost use Rattle.lash_model.specs.Lassos.{Lasso, numerator, denominator};
+ghost use Rattle.lash_model.specs.Formulas.{Sort, Linear, Formula};
+ghost use Rattle.lash_model.specs.Meaning.{total, holds, Solves};
+ghost use Rattle.lash_model.specs.Tables.{Table};
+ghost use Rattle.lash_model.specs.Standing.{StandsForWhole};
+ghost use Rattle.lash_model.specs.Thresholds.{Comparison, atom, letter_total, sign_total, seeds, AreThresholds, CountsThresholds};
+
+/// The expansion of a letter is the one list of so many digits below the base whose number is the letter.
+pub fn letters_are_their_digits()
+    ensures digits { (r n l : ℕ) → 0 < r → l < r ^ n → AreDigits r n (digits r n l) × (number r (digits r n l) ≡ l) }
+    ensures unique { (r n : ℕ) (ds : List ℕ) → AreDigits r n ds → digits r n (number r ds) ≡ ds }
+{}
+
+/// A letter at the end makes the base times the value, plus the letter's digit.
+pub fn letters_are_read_in_turn()
+    ensures { (r n i sign : ℕ) (w : List ℕ) (l : ℕ) → value r n i sign (w ++ l ∷ []) ≡ (pos r *ℤ value r n i sign w) +ℤ pos (digit r n i l) }
+{}
+
+/// A value is the run over the track's digits from minus the sign bit.
+pub fn values_are_runs()
+    ensures { (r n i sign : ℕ) (w : List ℕ) → value r n i sign w ≡ run r (diff 0 (sign_bit n i sign)) (track_digits r n i w) }
+{}
+
+/// The letter of the sign digits, put in front of a word, changes no value.
+pub fn sign_letters_are_idle()
+    ensures { (r n i sign : ℕ) (w : List ℕ) → 2 ≤ r → i < n → sign < 2 ^ n → value r n i sign (sign_letter r n sign ∷ w) ≡ value r n i sign w }
+{}
+
+/// A value with sign bit 0 is at least 0 and below the base to the word's length; one with sign bit 1 is below 0, and at least minus
+/// that power.
+pub fn values_are_bounded()
+    ensures { (r n i sign : ℕ) (w : List ℕ) → 0 < r → i < n → AllByRecursion (λ l. l < r ^ n) w → IsBounded r (length w) (sign_bit n i sign) (value r n i sign w) }
+{}
+
+/// Each number from minus a power of the base up to that power has a word of that length on one track.
+pub fn numbers_have_words()
+    ensures natural { (r k n : ℕ) → 0 < r → n < r ^ k → SpellsNumber r k (pos n) }
+    ensures negative { (r k n : ℕ) → 0 < r → n < r ^ k → SpellsNumber r k (negsuc n) }
+{}
+
+/// A lasso's numerator is what one turn of its cycle adds to the run over its whole part and stem, and its denominator is the
+/// difference of two powers.
+pub fn lassos_are_differences()
+    ensures numerator { (r n i : ℕ) (x : Lasso) → 0 < r → numerator r n i x ≡ gain r (diff 0 (sign_bit n i x.sign)) (track_digits r n i (x.whole ++ x.stem)) (track_digits r n i x.cycle) }
+    ensures denominator { (r : ℕ) (x : Lasso) → 0 < r → denominator r x + r ^ length x.stem ≡ r ^ length x.stem * r ^ length x.cycle }
+{}
+
+/// A linear term's total over the values of a word is the run over the letters' totals from minus the sign bits' total.
+pub fn totals_are_runs()
+    ensures { (ts : List (ℕ × ℤ)) (r n sign : ℕ) (w : List ℕ) → total ts (values r n sign w) ≡ run r (neg_ℤ (sign_total ts n sign)) (map (letter_total ts r n) w) }
+{}
+
+/// A set does not tell fractions from the same fractions over a multiple of their denominator.
+pub fn sets_are_of_fractions()
+    ensures { (sorts : List Sort) (f : Formula) (c : ℕ) (ns : List ℤ) (d : ℕ) → (Solves sorts f ns d → Solves sorts f (scale (suc c) ns) (suc c * d)) × (Solves sorts f (scale (suc c) ns) (suc c * d) → Solves sorts f ns d) }
+{}
+
+/// A table whose states count the thresholds of an atom stands for the atom.
+pub fn counting_tables_stand()
+    ensures { (kind : Comparison) (a : Linear) (r n : ℕ) (ts : List ℤ) (t : Table) → 0 < r → CountsThresholds kind a r n ts t → AreThresholds r (r ^ n) (letter_total a.terms r n) (seeds kind a.constant) ts → StandsForWhole t (holds (atom kind a)) }
+{}

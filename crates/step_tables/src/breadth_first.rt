@@ -9,7 +9,7 @@ ghost use Rattle.step_tables.specs.Gathering.{met, same_list, Starting, Followin
 use crate::explored::Search;
 use crate::found::Found;
 use crate::{ExploreError, Explored, Key, Machine};
-use digit_codes::Memory;
+use lash_io::Memory;
 use smallvec::SmallVec;
 use std::alloc::Global;
 

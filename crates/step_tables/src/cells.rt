@@ -2,7 +2,7 @@
 
 ghost use Rattle.std.specs.Prelude.{◌≡◌, ℕ, ◌<◌, ◌≤◌, ◌^◌, List, length, slice_index, slice_set, replicate, IfOk};
 
-use digit_codes::Memory;
+use lash_io::Memory;
 use std::alloc::Global;
 use std::marker::Model;
 

@@ -3,7 +3,7 @@
 ghost use Rattle.std.specs.Prelude.{◌≡◌, ◌<◌, List, ℕ, Bool, length, IsTrue, OnOk};
 ghost use Rattle.graph_laws.specs.Exploring.{Steps, list_at};
 
-use digit_codes::Memory;
+use lash_io::Memory;
 use smallvec::SmallVec;
 use std::alloc::Global;
 

@@ -11,7 +11,8 @@ ghost use Rattle.step_tables.specs.Kept.{plain, zeros};
 
 use crate::entries::entry_at;
 use crate::{Cells, Plain};
-use digit_codes::{Base, Lasso, Memory};
+use digit_codes::{Base, Lasso};
+use lash_io::Memory;
 use std::alloc::Global;
 use std::marker::Model;
 

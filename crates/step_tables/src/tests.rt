@@ -5,7 +5,8 @@ ghost use Rattle.std.specs.Prelude.{◌≡◌, ℕ, ◌+◌, ◌*◌, ◌<◌, �
 ghost use Rattle.digit_codes.specs.Reading.{lasso_of};
 
 use super::*;
-use digit_codes::{Base, Lasso, Memory, Word};
+use digit_codes::{Base, Lasso, Word};
+use lash_io::Memory;
 use std::alloc::Global;
 use std::process::Abort;
 use std::test::Fail;

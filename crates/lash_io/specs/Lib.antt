@@ -1,0 +1,6 @@
+pub mod Counters
+pub mod Sources
+pub mod Sinks
+pub mod InMemory
+pub mod Adapters
+pub mod Blocks

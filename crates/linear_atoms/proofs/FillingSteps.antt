@@ -1,0 +1,57 @@
+-- Filling an atom's rows, entry by entry.
+use Rattle.std.proofs.Common.{◌≡◌, ℕ, zero, suc, ◌+◌, ◌*◌, ◌^◌, ◌≤◌, ◌<◌, List, [], ◌∷◌, length, arith, refl, ◌∙◌, sym, ap, subst}
+use Rattle.std.proofs.Math.IntN.{ℤ, pos, neg_ℤ, ◌+ℤ◌, ◌*ℤ◌}
+use Rattle.std.proofs.Math.Nat.{pow-le-pow_left}
+use Rattle.std.specs.Prelude.{slice_set}
+use Rattle.std.specs.List.{slice_index_or}
+use Rattle.std.proofs.lemmas.Bool.{cases_lt}
+use Rattle.std.proofs.lemmas.List.{get_or-set_same, get_or-set_other}
+use Rattle.std.proofs.lemmas.Nat.{same_from_place}
+use mathlib.Core.Logic.{inl, inr}
+use Rattle.lash_model.specs.Formulas.{Linear}
+use Rattle.lash_model.specs.Tables.{IsTable}
+use Rattle.lash_model.specs.Thresholds.{Comparison, letter_total, sign_total}
+use Rattle.lash_model.specs.Letters.{sign_bit}
+use Rattle.step_tables.specs.Kept.{Kept}
+use Rattle.linear_atoms.specs.Closing.{entry}
+use Rattle.linear_atoms.specs.Filling.{target_of, AreRows, IsBlankShape, IsWide, IsFilling}
+
+-- there are no more sign vectors than letters
+pub few_signs : (base n : ℕ) → 2 ≤ base → base ^ n ≤ 4096 → 2 ^ n ≤ 4096
+few_signs base n h k = omega (arith, k, pow-le-pow_left h n)
+
+-- a sign vector's bits are its digits in base 2
+pub sign_total_by_digits : (terms : List (ℕ × ℤ)) (n sign : ℕ) → letter_total terms 2 n sign ≡ sign_total terms n sign
+unfolding letter_total sign_total sign_bit
+sign_total_by_digits terms n sign = refl
+
+pub place_within : (c m w l : ℕ) → c < m → l < w → c * w + l < m * w
+place_within c m w l h k = grind arith
+
+rows_more : (base : ℕ) (totals ts : List ℤ) (state l : ℕ) (rows : List ℕ) (to : ℕ) → AreRows base totals ts (state * length totals + l) rows → l < length totals → state * length totals + l < length rows → to ≡ target_of base ts state (entry totals l) → AreRows base totals ts (state * length totals + (l + 1)) (slice_set rows (state * length totals + l) to)
+rows_more base totals ts state l rows to r inside place is = record {
+  each = λ c k c_in k_in h. elim (cases_lt (c * length totals + k) (state * length totals + l)) [
+      inl before ↦ get_or-set_other rows (state * length totals + l) (c * length totals + k) to 0 (apart (c * length totals + k) before) ∙ r.each c k c_in k_in before
+    | inr last ↦ written c k k_in (omega (arith, h, last)) ];
+}
+  where
+    apart : (p : ℕ) → p < state * length totals + l → p ≡ state * length totals + l → ⊥
+    apart p h e = omega (arith, h, e)
+    written : (c k : ℕ) → k < length totals → c * length totals + k ≡ state * length totals + l → slice_index_or (slice_set rows (state * length totals + l) to) (c * length totals + k) 0 ≡ target_of base ts c (entry totals k)
+    written c k k_in e = let same = same_from_place c k state l (length totals) k_in inside e in
+      ap (λ p. slice_index_or (slice_set rows (state * length totals + l) to) p 0) e ∙ get_or-set_same rows (state * length totals + l) to 0 place ∙ is ∙ ap (λ x. target_of base ts x (entry totals l)) (sym same.0) ∙ ap (λ x. target_of base ts c (entry totals x)) (sym same.1)
+
+-- the kept table with one target written
+pub filling_row : (kind : Comparison) (a : Linear) (base n : ℕ) (totals ts : List ℤ) (roots outs state l to : ℕ) (k : Kept) → IsFilling kind a base n totals ts roots (state * length totals + l) outs k → IsTable (record k.table { rows = slice_set k.table.rows (state * k.table.base ^ k.table.tracks + l) to }) → state < length ts + 1 → l < length totals → length totals ≡ base ^ n → to ≡ target_of base ts state (entry totals l) → IsFilling kind a base n totals ts roots (state * length totals + (l + 1)) outs (record k { table = record k.table { rows = slice_set k.table.rows (state * k.table.base ^ k.table.tracks + l) to } })
+filling_row kind a base n totals ts roots outs state l to k f table state_in l_in width is = record {
+  shape = record { base_is = f.shape.base_is; tracks_are = f.shape.tracks_are; diagram = f.shape.diagram; states = f.shape.states; table = table };
+  wide = record { roots = f.wide.roots; rows = f.wide.rows; outs = f.wide.outs };
+  roots_filled = f.roots_filled;
+  rows_filled = subst (λ w. AreRows base totals ts (state * length totals + (l + 1)) (slice_set k.table.rows (state * w + l) to)) letters_are (rows_more base totals ts state l k.table.rows to f.rows_filled l_in (subst (λ m. state * length totals + l < m) (sym rows_are) (place_within state (length ts + 1) (length totals) l state_in l_in)) is);
+  outs_filled = f.outs_filled;
+}
+  where
+    letters_are : length totals ≡ k.table.base ^ k.table.tracks
+    letters_are = width ∙ ap (λ b. b ^ n) (sym f.shape.base_is) ∙ ap (λ m. k.table.base ^ m) (sym f.shape.tracks_are)
+    rows_are : length k.table.rows ≡ (length ts + 1) * length totals
+    rows_are = f.shape.table.rows_count ∙ ap (λ m. m * k.table.base ^ k.table.tracks) f.shape.states ∙ ap (λ m. (length ts + 1) * m) (sym letters_are)

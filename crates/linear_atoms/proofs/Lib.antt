@@ -1,0 +1,6 @@
+pub mod Members
+pub mod Searching
+pub mod Summing
+pub mod Sorting
+pub mod FillingSteps
+pub mod Finishing

@@ -1,0 +1,4 @@
+pub mod Closing
+pub mod Totals
+pub mod Kinds
+pub mod Filling

@@ -1,0 +1,146 @@
+//! Filling the table of an atom from its rising thresholds and the totals of its letters.
+
+ghost use Rattle.std.specs.Prelude.{◌≡◌, ℕ, ℤ, pos, ◌+◌, ◌*◌, ◌^◌, ◌<◌, ◌≤◌, neg_ℤ, List, length, unsigned_abs};
+ghost use Rattle.lash_model.specs.Thresholds.{passes, below, representative, one_if, sign_total};
+ghost use Rattle.linear_atoms.specs.Closing.{entry};
+ghost use Rattle.linear_atoms.specs.Kinds.{comparison_of};
+ghost use Rattle.linear_atoms.specs.Filling.{target_of, IsPlan, IsFilling};
+
+use crate::counts::{count_below, next_value, value_of_count};
+use crate::kind::AtomKind;
+use crate::totals::digits_total;
+use digit_codes::Base;
+use formula_core::Linear;
+use step_tables::{Plain, Table};
+
+/// What a table is filled from.
+#[derive(Clone, Copy)]
+pub struct Plan<'a> {
+    pub base: Base,
+    pub tracks: u32,
+    pub kind: AtomKind,
+    pub atom: &'a Linear,
+    pub totals: &'a [i128],
+    pub thresholds: &'a [i128],
+}
+
+/// The base of sign vectors.
+fn binary() -> Base
+    ensures { result ≡ 2 }
+{
+    match Base::new(2) {
+        Some(two) => two,
+        None => unreachable!(),
+    }
+}
+
+/// Minus a small number.
+fn negated(number: &i128) -> i128
+    requires { unsigned_abs number.now ≤ 2 ^ 28 }
+    ensures { result ≡ neg_ℤ number.now }
+{
+    -*number
+}
+
+/// Whether a value passes the comparison with the bound.
+fn passes_bound(kind: AtomKind, value: &i128, bound: &i128) -> bool
+    ensures { result ≡ passes (comparison_of kind) value.now bound.now }
+{
+    match kind {
+        AtomKind::Le => *value <= *bound,
+        AtomKind::Eq => *value == *bound,
+    }
+}
+
+/// The state that a letter leads to.
+fn target(plan: &Plan, state: u32, letter: u32) -> u32
+    requires plan { IsPlan plan.now.base plan.now.tracks plan.now.atom.now plan.now.totals.now plan.now.thresholds.now }
+    requires letter { letter < length plan.now.totals.now }
+    ensures value { result ≡ target_of plan.now.base plan.now.thresholds.now state (entry plan.now.totals.now letter) }
+    ensures within { result < length plan.now.thresholds.now + 1 }
+{
+    let value = value_of_count(plan.thresholds, state);
+    let next = next_value(plan.base.radix(), &value, &plan.totals[letter as usize]);
+    count_below(plan.thresholds, &next)
+}
+
+/// The root of a sign vector.
+fn root_of(plan: &Plan, sign: u32) -> u32
+    requires plan { IsPlan plan.now.base plan.now.tracks plan.now.atom.now plan.now.totals.now plan.now.thresholds.now }
+    requires sign { sign < 2 ^ plan.now.tracks }
+    ensures value { result ≡ below plan.now.thresholds.now (neg_ℤ (sign_total plan.now.atom.now.terms plan.now.tracks sign)) }
+    ensures within { result < length plan.now.thresholds.now + 1 }
+{
+    let total = digits_total(binary(), plan.tracks, plan.atom, sign);
+    count_below(plan.thresholds, &negated(&total))
+}
+
+/// Whether a state's values are accepted: 1 for yes, 0 for no.
+fn out_of(plan: &Plan, state: u32) -> u32
+    requires plan { IsPlan plan.now.base plan.now.tracks plan.now.atom.now plan.now.totals.now plan.now.thresholds.now }
+    ensures value { result ≡ one_if (passes (comparison_of plan.now.kind) (representative plan.now.thresholds.now state) plan.now.atom.now.constant) }
+    ensures bit { result < 2 }
+{
+    let value = value_of_count(plan.thresholds, state);
+    if passes_bound(plan.kind, &value, &plan.atom.constant()) {
+        1
+    } else {
+        0
+    }
+}
+
+/// Fills the roots.
+fn fill_roots(plan: &Plan, table: &mut Table<Plain>)
+    requires plan { IsPlan plan.now.base plan.now.tracks plan.now.atom.now plan.now.totals.now plan.now.thresholds.now }
+    requires blank { IsFilling (comparison_of plan.now.kind) plan.now.atom.now plan.now.base plan.now.tracks plan.now.totals.now plan.now.thresholds.now 0 0 0 table.old }
+    ensures filled { IsFilling (comparison_of plan.now.kind) plan.now.atom.now plan.now.base plan.now.tracks plan.now.totals.now plan.now.thresholds.now (2 ^ plan.now.tracks) 0 0 table.new }
+{
+    for sign in 0..2u32.pow(plan.tracks) {
+        table.set_root(sign, root_of(plan, sign));
+    }
+}
+
+/// Fills the row of a state.
+fn fill_row(plan: &Plan, table: &mut Table<Plain>, state: u32)
+    requires plan { IsPlan plan.now.base plan.now.tracks plan.now.atom.now plan.now.totals.now plan.now.thresholds.now }
+    requires state { state < length plan.now.thresholds.now + 1 }
+    requires before { IsFilling (comparison_of plan.now.kind) plan.now.atom.now plan.now.base plan.now.tracks plan.now.totals.now plan.now.thresholds.now (2 ^ plan.now.tracks) (state * length plan.now.totals.now) 0 table.old }
+    ensures filled { IsFilling (comparison_of plan.now.kind) plan.now.atom.now plan.now.base plan.now.tracks plan.now.totals.now plan.now.thresholds.now (2 ^ plan.now.tracks) ((state + 1) * length plan.now.totals.now) 0 table.new }
+{
+    for letter in 0..plan.totals.len() as u32 {
+        table.set_int(state, letter, target(plan, state, letter));
+    }
+}
+
+/// Fills the rows.
+fn fill_rows(plan: &Plan, table: &mut Table<Plain>)
+    requires plan { IsPlan plan.now.base plan.now.tracks plan.now.atom.now plan.now.totals.now plan.now.thresholds.now }
+    requires before { IsFilling (comparison_of plan.now.kind) plan.now.atom.now plan.now.base plan.now.tracks plan.now.totals.now plan.now.thresholds.now (2 ^ plan.now.tracks) 0 0 table.old }
+    ensures filled { IsFilling (comparison_of plan.now.kind) plan.now.atom.now plan.now.base plan.now.tracks plan.now.totals.now plan.now.thresholds.now (2 ^ plan.now.tracks) ((length plan.now.thresholds.now + 1) * length plan.now.totals.now) 0 table.new }
+{
+    for state in 0..plan.thresholds.len() as u32 + 1 {
+        fill_row(plan, table, state);
+    }
+}
+
+/// Fills the outputs.
+fn fill_outs(plan: &Plan, table: &mut Table<Plain>)
+    requires plan { IsPlan plan.now.base plan.now.tracks plan.now.atom.now plan.now.totals.now plan.now.thresholds.now }
+    requires before { IsFilling (comparison_of plan.now.kind) plan.now.atom.now plan.now.base plan.now.tracks plan.now.totals.now plan.now.thresholds.now (2 ^ plan.now.tracks) ((length plan.now.thresholds.now + 1) * length plan.now.totals.now) 0 table.old }
+    ensures filled { IsFilling (comparison_of plan.now.kind) plan.now.atom.now plan.now.base plan.now.tracks plan.now.totals.now plan.now.thresholds.now (2 ^ plan.now.tracks) ((length plan.now.thresholds.now + 1) * length plan.now.totals.now) (length plan.now.thresholds.now + 1) table.new }
+{
+    for state in 0..plan.thresholds.len() as u32 + 1 {
+        table.set_out(state, out_of(plan, state));
+    }
+}
+
+/// Fills a blank table.
+pub fn fill(plan: &Plan, table: &mut Table<Plain>)
+    requires plan { IsPlan plan.now.base plan.now.tracks plan.now.atom.now plan.now.totals.now plan.now.thresholds.now }
+    requires blank { IsFilling (comparison_of plan.now.kind) plan.now.atom.now plan.now.base plan.now.tracks plan.now.totals.now plan.now.thresholds.now 0 0 0 table.old }
+    ensures filled { IsFilling (comparison_of plan.now.kind) plan.now.atom.now plan.now.base plan.now.tracks plan.now.totals.now plan.now.thresholds.now (2 ^ plan.now.tracks) ((length plan.now.thresholds.now + 1) * length plan.now.totals.now) (length plan.now.thresholds.now + 1) table.new }
+{
+    fill_roots(plan, table);
+    fill_rows(plan, table);
+    fill_outs(plan, table);
+}

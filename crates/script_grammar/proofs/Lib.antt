@@ -1,0 +1,5 @@
+pub mod Spellings
+pub mod TermsGood
+pub mod FormulasGood
+pub mod StatementsGood
+pub mod Answers

@@ -1,0 +1,9 @@
+//! Trees of statements, and how they are read from tokens with one token in hand (recursive descent).
+#![tactic(auto)]
+
+mod cursor;
+mod terms;
+mod tree;
+
+pub use cursor::{Cursor, Stop};
+pub use tree::{Declaration, NameAt, Part, Quantifier, Relation, Signed, Term, Tree};

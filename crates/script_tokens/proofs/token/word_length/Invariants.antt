@@ -1,0 +1,7 @@
+use Rattle.std.proofs.Common.{◌≡◌, ◌+◌, drop}
+use Rattle.std.specs.List.{prefix_len}
+use Rattle.formula_core.specs.Names.{is_in_word}
+use Rattle.script_tokens.proofs.token.word_length.Given as goal
+
+abbrev pub invariant-loop-count : goal.invariant-loop-count
+invariant-loop-count l = prefix_len is_in_word l.bytes ≡ l.count + prefix_len is_in_word (drop l.count l.bytes)
