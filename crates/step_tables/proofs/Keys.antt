@@ -2,7 +2,6 @@
 use Rattle.std.proofs.Common.{◌≡◌, ℕ, Bool, true, false, ◌||◌, not, List, [], ◌∷◌, ◌++◌, map, Option, IfSome, slice_get, option_map, refl, sym, ap, ◌∙◌, if◌then◌else◌, nat_eq}
 use Rattle.std.specs.List.{list_any, position, slice_index_or}
 use Rattle.std.proofs.lemmas.List.Quantifiers.{position-Some}
-use Rattle.std.proofs.lemmas.List.Folds.{list_any_at}
 use Rattle.std.specs.declared.option.Option.TheVariants.{Some, None}
 use Rattle.std.specs.Cmp.Lexicographic.{pointwise, same_text}
 use Rattle.std.proofs.lemmas.Option.{slice_get-map, slice_get-get_or}
@@ -29,21 +28,13 @@ module _ {K : Type 0} (items : K → List ℕ) where
   stored_key ks p k s at same =
       slice_get-map items ks p ∙ (ap (option_map items) at ∙ ap (λ x. Some x) (sym (same_text (items k) (items s) (sym same))))
 
-  pub at_position : (ks : List K) (p : ℕ) (k : K) → position (λ w. pointwise nat_eq (items k) (items w)) ks ≡ Some p → slice_get (map items ks) p ≡ Some (items k)
+  at_position : (ks : List K) (p : ℕ) (k : K) → position (λ w. pointwise nat_eq (items k) (items w)) ks ≡ Some p → slice_get (map items ks) p ≡ Some (items k)
   at_position ks p k e = let found = position-Some (λ w. pointwise nat_eq (items k) (items w)) ks p k e in
       stored_key ks p k (slice_index_or ks p k) (slice_get-get_or ks p k found.0) found.1
-
-  pub any_position : (ks : List K) (p : ℕ) (k : K) → position (λ w. pointwise nat_eq (items k) (items w)) ks ≡ Some p → list_any (same_list (items k)) (map items ks) ≡ true
-  any_position ks p k e = let found = position-Some (λ w. pointwise nat_eq (items k) (items w)) ks p k e in
-      sym (list_any-map k ks) ∙ list_any_at (λ w. pointwise nat_eq (items k) (items w)) ks p k found.0 found.1
 
   pub placed_if : (ks : List K) (k : K) (r : Option ℕ) → r ≡ position (λ w. pointwise nat_eq (items k) (items w)) ks → IfSome r (λ p. slice_get (map items ks) p ≡ Some (items k))
   placed_if ks k None e = tt
   placed_if ks k (Some p) e = at_position ks p k (sym e)
-
-  pub known_if : (ks : List K) (k : K) (r : Option ℕ) → r ≡ position (λ w. pointwise nat_eq (items k) (items w)) ks → IfSome r (λ p. list_any (same_list (items k)) (map items ks) ≡ true)
-  known_if ks k None e = tt
-  known_if ks k (Some p) e = any_position ks p k (sym e)
 
 pub fresh : (b r : Bool) → r ≡ not b → r ≡ true → b ≡ false
 fresh true r e t = cc

@@ -1,6 +1,6 @@
 //! The keys that were found, each once, and the sum of their cells.
 
-ghost use Rattle.std.specs.Prelude.{◌≡◌, ◌+◌, ◌<◌, ◌≤◌, ◌^◌, List, ℕ, [], length, slice_get, Some, IfOk, IfErr, IfSome, OnOk, true, false, if◌then◌else◌};
+ghost use Rattle.std.specs.Prelude.{◌≡◌, ◌+◌, ◌<◌, ◌≤◌, ◌^◌, List, ℕ, [], length, slice_get, Some, IfOk, IfErr, IfSome, OnOk, is_some, true, false, if◌then◌else◌};
 ghost use Rattle.std.specs.List.{list_any};
 ghost use Rattle.step_tables.specs.Gathering.{met, same_list};
 
@@ -64,7 +64,7 @@ impl Found {
     /// The position of a key, if it was found.
     pub fn position(&self, key: &Key) -> Option<usize>
         ensures place { IfSome result (λ p. slice_get self.now.keys p ≡ Some key.now.items) }
-        ensures known { IfSome result (λ p. list_any (same_list key.now.items) self.now.keys ≡ true) }
+        ensures known { is_some result ≡ list_any (same_list key.now.items) self.now.keys }
         ensures few { IfSome result (λ p. p < self.now.cells) }
     {
         self.keys.get_index_of(key)
