@@ -1,8 +1,14 @@
-//! The text of automata.
+//! The text of automata: writing it.
 #![tactic(auto)]
 
 mod header;
+mod lines;
+mod pieces;
+mod states;
 mod write;
 
 pub use header::Header;
 pub use write::write_table;
+
+#[cfg(test)]
+mod tests;

@@ -1,21 +1,22 @@
 //! Writing the text of an automaton, through one block of fixed size. Own.
 //!
-//! Each cell is read once, and a sink is called once for a few thousand bytes. No memory is taken.
+//! Each cell is read once, and the sink is called once for a few thousand bytes. No memory is taken.
 
-ghost use Rattle.std.specs.Prelude.{◌≡◌, ◌≤◌, ◌++◌, codes, OnErr};
-ghost use Rattle.std.specs.Fmt.{decimal};
+ghost use Rattle.std.specs.Prelude.{◌≤◌, OnErr};
 ghost use Rattle.lash_model.specs.Faults.{IsFaultCounted};
-ghost use Rattle.lash_model.specs.Text.{text_of, number_line};
+ghost use Rattle.lash_model.specs.Text.{text_of};
 ghost use Rattle.lash_io.specs.Sinks.{Puts};
 ghost use Rattle.lash_io.specs.Blocks.{Passes};
 ghost use Rattle.canon_text.specs.Heading.{HeadsTable};
 
 use crate::header::Header;
+use crate::lines::{put_counts, put_heading};
+use crate::states::{put_frac_lines, put_int_lines};
 use lash_io::{Block, Failed, Sink};
 use step_tables::{Cells, Table};
 
-/// Writes the text of a table under a header: the base and the number of variables agree, and no variable is real exactly where the
-/// table has no fraction states.
+/// Writes the text of a table under a header. As a condition, the base is the table's, there is a variable for each track, and no
+/// variable is real exactly where the table has no fraction states.
 ///
 /// Fails only at a fault of the sink, which then holds a prefix of the text.
 pub fn write_table<C: Cells, K: Sink>(
@@ -29,32 +30,25 @@ pub fn write_table<C: Cells, K: Sink>(
     ensures cause { OnErr result (IsFaultCounted (K.faults sink.old) (K.faults sink.new)) }
 {
     let mut block = Block::new();
-    put_number_line(&mut block, sink, b"base", header.base().radix() as u64)?;
+    put_text(&mut block, sink, table, header)?;
     block.flush(sink)
 }
 
-/// Puts a space and a number.
-fn put_spaced<K: Sink>(block: &mut Block, sink: &mut K, number: u64) -> Result<(), Failed>
-    ensures bytes { Passes (K.held sink.old) block.old (K.held sink.new) block.new result (codes " " ++ decimal number) }
-    ensures count { K.faults sink.old ≤ K.faults sink.new }
-    ensures cause { OnErr result (IsFaultCounted (K.faults sink.old) (K.faults sink.new)) }
-{
-    block.put(sink, b" ")?;
-    block.put_number(sink, number)
-}
-
-/// Puts the line of a word and a number.
-fn put_number_line<K: Sink>(
+/// Puts the text of a table.
+fn put_text<C: Cells, K: Sink>(
     block: &mut Block,
     sink: &mut K,
-    word: &[u8],
-    number: u64,
+    table: &Table<C>,
+    header: &Header,
 ) -> Result<(), Failed>
-    ensures bytes { Passes (K.held sink.old) block.old (K.held sink.new) block.new result (number_line word.now number) }
+    requires { HeadsTable header.now.base header.now.vars table.now.table }
+    ensures bytes { Passes (K.held sink.old) block.old (K.held sink.new) block.new result (text_of header.now.vars table.now.table) }
     ensures count { K.faults sink.old ≤ K.faults sink.new }
     ensures cause { OnErr result (IsFaultCounted (K.faults sink.old) (K.faults sink.new)) }
 {
-    block.put(sink, word)?;
-    put_spaced(block, sink, number)?;
-    block.put(sink, b"\n")
+    put_heading(block, sink, table.base(), header.vars(), table.tracks())?;
+    put_counts(block, sink, table)?;
+    put_int_lines(block, sink, table)?;
+    put_frac_lines(block, sink, table)?;
+    block.put(sink, b"end\n")
 }
