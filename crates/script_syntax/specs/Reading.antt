@@ -35,3 +35,7 @@ folded add s (a ∷ l) = folded add (add s a) l
 -- the items of a list that are still to be read, joined to those that were
 abbrev pub rest_of : {T A S : Type 0} → (T → Bool) → (List T → Res T A) → (S → A → S) → ℕ → S → List T → Res T S
 rest_of starts p add n s ts = res_map (folded add s) (many starts p n ts)
+
+-- of a keyword or sign nothing is kept
+abbrev pub forgotten : ℕ → Unit {0}
+forgotten place = tt

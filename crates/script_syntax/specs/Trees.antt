@@ -2,14 +2,25 @@
 use Rattle.std.specs.Prelude.{ℕ, List, [], ◌∷◌, ◌++◌, map, Bool, true, false, Option, None, Some}
 use Rattle.parser_laws.specs.Parsing.{Res, Either, first, other, Pair, both}
 use Rattle.script_tokens.specs.Tokens.{PlacedToken}
-use Rattle.script_grammar.specs.Views.{Adding, Plus, Minus, adding, adding_view, is_adding}
-use Rattle.script_grammar.specs.Terms.{part, tail, term}
+use Rattle.lash_model.specs.Formulas.{Sort}
+use Rattle.formula_core.specs.Variables.{sort_of}
+use Rattle.script_tokens.specs.declared.kind.Kind.TheVariants as kind
+use Rattle.script_grammar.specs.Views.{Adding, Plus, Minus, adding, adding_view, is_adding, Relation, AtMost, Below, AtLeast, Above, Equal, Unequal, Quantifier, Exists, Forall, relation_view, sort_view, is, sign}
+use Rattle.script_grammar.specs.Terms.{scaled, part, tail, term, terms, arguments, called, compared, named, unnamed, atom, declaration, declarations}
 use Rattle.script_syntax.specs.Reading.{folded, rest_of}
 use Rattle.script_syntax.specs.declared.tree.NameAt.{NameAt}
 use Rattle.script_syntax.specs.declared.tree.Part.{Part}
 use Rattle.script_syntax.specs.declared.tree.Part.TheVariants.{Constant as DeclaredConstant, Scaled as DeclaredScaled, Variable as DeclaredVariable}
 use Rattle.script_syntax.specs.declared.tree.Signed.{Signed}
 use Rattle.script_syntax.specs.declared.tree.Term.{Term}
+use Rattle.script_syntax.specs.declared.tree.Declaration.{Declaration}
+use Rattle.script_syntax.specs.declared.tree.Relation.{Relation as DeclaredRelation}
+use Rattle.script_syntax.specs.declared.tree.Relation.TheVariants.{AtMost as DeclaredAtMost, Below as DeclaredBelow, AtLeast as DeclaredAtLeast, Above as DeclaredAbove, Equal as DeclaredEqual, Unequal as DeclaredUnequal}
+use Rattle.script_syntax.specs.declared.tree.Quantifier.{Quantifier as DeclaredQuantifier}
+use Rattle.script_syntax.specs.declared.tree.Quantifier.TheVariants.{Exists as DeclaredExists, Forall as DeclaredForall}
+use Rattle.script_syntax.specs.declared.tree.Tree.{Tree}
+use Rattle.script_syntax.specs.declared.tree.Tree.TheVariants.{Truth as DeclaredTruth, Compare as DeclaredCompare, Call as DeclaredCall, Not' as DeclaredNot', And' as DeclaredAnd', Or' as DeclaredOr', Implies' as DeclaredImplies', Equivalent' as DeclaredEquivalent', Quantified' as DeclaredQuantified'}
+use Rattle.formula_core.specs.declared.sort.Sort.{Sort as DeclaredSort}
 
 -- a name with its place
 abbrev pub Named : Type 0
@@ -28,8 +39,11 @@ abbrev pub scaled_shape : ℕ → Either (Pair ℕ Named) Unit → PartShape
 scaled_shape n (first x) = Scaled n x.right
 scaled_shape n (other x) = Constant n
 
+abbrev pub scaled_part : scaled.Tree → PartShape
+scaled_part x = scaled_shape x.left.left x.right
+
 abbrev pub part_shape : part.Tree → PartShape
-part_shape (first x) = scaled_shape x.left.left x.right
+part_shape (first x) = scaled_part x
 part_shape (other x) = Variable x
 
 abbrev pub is_minus : Adding → Bool
@@ -64,6 +78,80 @@ abbrev pub adding_at : List PlacedToken → Option Bool
 adding_at [] = None
 adding_at (t ∷ ts) = minus_of (adding_view t.token)
 
+-- a term more, behind its comma
+abbrev pub join_term : List (List SignedShape) → ℕ → List SignedShape → List (List SignedShape)
+join_term s comma t = s ++ t ∷ []
+
+abbrev pub add_term : List (List SignedShape) → Pair ℕ term.Tree → List (List SignedShape)
+add_term s x = join_term s x.left (term_shape x.right)
+
+abbrev pub terms_shape : terms.Tree → List (List SignedShape)
+terms_shape x = folded add_term (term_shape x.left ∷ []) x.right
+
+-- the terms that are still to be read, behind those that were
+abbrev pub terms_read : ℕ → List (List SignedShape) → List PlacedToken → Res PlacedToken (List (List SignedShape))
+terms_read n s ts = rest_of (is kind.Comma) (both (sign kind.Comma) term).parse add_term n s ts
+
+abbrev pub arguments_shape : arguments.Tree → List (List SignedShape)
+arguments_shape (first x) = terms_shape x
+arguments_shape (other x) = []
+
+abbrev pub closed_shape : Pair arguments.Tree ℕ → List (List SignedShape)
+closed_shape x = arguments_shape x.left
+
+abbrev pub called_shape : called.Tree → List (List SignedShape)
+called_shape x = closed_shape x.right
+
+-- a name with its sort
+pub record DeclarationShape : Type 0 where
+  pub name : Named
+  pub sort : Sort
+
+abbrev pub declaration_shape : declaration.Tree → DeclarationShape
+declaration_shape x = record { name = x.left; sort = x.right.left }
+
+abbrev pub join_declaration : List DeclarationShape → ℕ → DeclarationShape → List DeclarationShape
+join_declaration s comma d = s ++ d ∷ []
+
+abbrev pub add_declaration : List DeclarationShape → Pair ℕ declaration.Tree → List DeclarationShape
+add_declaration s x = join_declaration s x.left (declaration_shape x.right)
+
+abbrev pub declarations_shape : declarations.Tree → List DeclarationShape
+declarations_shape x = folded add_declaration (declaration_shape x.left ∷ []) x.right
+
+-- the declarations that are still to be read, behind those that were
+abbrev pub declarations_read : ℕ → List DeclarationShape → List PlacedToken → Res PlacedToken (List DeclarationShape)
+declarations_read n s ts = rest_of (is kind.Comma) (both (sign kind.Comma) declaration).parse add_declaration n s ts
+
+-- formulas
+pub data TreeShape : Type 0 where
+  Truth : Bool → TreeShape
+  Compare : List SignedShape → Relation → List SignedShape → TreeShape
+  Call : Named → List (List SignedShape) → TreeShape
+  Not : TreeShape → TreeShape
+  And : TreeShape → TreeShape → TreeShape
+  Or : TreeShape → TreeShape → TreeShape
+  Implies : TreeShape → TreeShape → TreeShape
+  Equivalent : TreeShape → TreeShape → TreeShape
+  Quantified : Quantifier → List DeclarationShape → TreeShape → TreeShape
+
+-- a comparison whose first part is given
+abbrev pub compared_shape : SignedShape → compared.Tree → TreeShape
+compared_shape s x = Compare (folded add_part (s ∷ []) x.left) x.right.left.left (term_shape x.right.right)
+
+abbrev pub named_shape : Named → Either called.Tree compared.Tree → TreeShape
+named_shape name (first x) = Call name (called_shape x)
+named_shape name (other x) = compared_shape (record { minus = false; part = Variable name }) x
+
+abbrev pub lead_shape : Either (Pair ℕ part.Tree) scaled.Tree → SignedShape
+lead_shape (first x) = record { minus = true; part = part_shape x.right }
+lead_shape (other x) = record { minus = false; part = scaled_part x }
+
+abbrev pub atom_shape : atom.Tree → TreeShape
+atom_shape (first x) = Truth x.left
+atom_shape (other (first x)) = named_shape x.left x.right
+atom_shape (other (other x)) = compared_shape (lead_shape x.left) x.right
+
 -- the same of the program's trees
 abbrev pub named_of : NameAt → Named
 named_of n = record { left = n.bytes.now; right = n.place }
@@ -78,3 +166,47 @@ signed_of x = record { minus = x.minus; part = part_of x.part }
 
 abbrev pub term_of : Term → List SignedShape
 term_of t = map signed_of t.parts.items
+
+abbrev pub declaration_of : Declaration → DeclarationShape
+declaration_of d = record { name = named_of d.name; sort = sort_of d.sort }
+
+abbrev pub relation_of : DeclaredRelation → Relation
+relation_of DeclaredAtMost = AtMost
+relation_of DeclaredBelow = Below
+relation_of DeclaredAtLeast = AtLeast
+relation_of DeclaredAbove = Above
+relation_of DeclaredEqual = Equal
+relation_of DeclaredUnequal = Unequal
+
+abbrev pub quantifier_of : DeclaredQuantifier → Quantifier
+quantifier_of DeclaredExists = Exists
+quantifier_of DeclaredForall = Forall
+
+abbrev pub tree_of : Tree → TreeShape
+tree_of (DeclaredTruth b) = Truth b
+tree_of (DeclaredCompare a r b) = Compare (term_of a) (relation_of r) (term_of b)
+tree_of (DeclaredCall name ts) = Call (named_of name) (map term_of ts.items)
+tree_of (DeclaredNot' p f) = Not (tree_of f)
+tree_of (DeclaredAnd' p f q g) = And (tree_of f) (tree_of g)
+tree_of (DeclaredOr' p f q g) = Or (tree_of f) (tree_of g)
+tree_of (DeclaredImplies' p f q g) = Implies (tree_of f) (tree_of g)
+tree_of (DeclaredEquivalent' p f q g) = Equivalent (tree_of f) (tree_of g)
+tree_of (DeclaredQuantified' w ds p f) = Quantified (quantifier_of w) (map declaration_of ds.items) (tree_of f)
+
+-- the relation in hand
+abbrev pub relation_at : List PlacedToken → Option Relation
+relation_at [] = None
+relation_at (t ∷ ts) = relation_view t.token
+
+abbrev pub relation_shown : Option DeclaredRelation → Option Relation
+relation_shown None = None
+relation_shown (Some r) = Some (relation_of r)
+
+-- the sort in hand
+abbrev pub sort_at : List PlacedToken → Option Sort
+sort_at [] = None
+sort_at (t ∷ ts) = sort_view t.token
+
+abbrev pub sort_shown : Option DeclaredSort → Option Sort
+sort_shown None = None
+sort_shown (Some s) = Some (sort_of s)

@@ -1,9 +1,12 @@
 //! A cursor over tokens.
 
-ghost use Rattle.std.specs.Prelude.{◌≡◌, ◌<◌, length, drop};
-ghost use Rattle.script_syntax.specs.Reading.{token_at, shown};
+ghost use Rattle.std.specs.Prelude.{◌≡◌, ◌<◌, ◌≤◌, length, drop};
+ghost use Rattle.parser_laws.specs.Parsing.{starts_with, res_map};
+ghost use Rattle.script_grammar.specs.Views.{is, is_kind, sign};
+ghost use Rattle.script_tokens.specs.Shape.{token_of};
+ghost use Rattle.script_syntax.specs.Reading.{token_at, shown, forgotten, Agrees};
 
-use script_tokens::Placed;
+use script_tokens::{Kind, Placed, Token};
 use std::marker::Model;
 
 /// Why the reading of tokens stops.
@@ -52,5 +55,38 @@ impl<'a> Cursor<'a> {
         ensures { self.new ≡ drop 1 self.old }
     {
         self.at += 1;
+    }
+
+    /// Whether the token in hand is the keyword or sign.
+    pub fn is_at(&self, kind: Kind) -> bool
+        ensures { result ≡ starts_with (is kind) self.now }
+    {
+        match self.token() {
+            Some(placed) => is_sign(placed.token, kind),
+            None => false,
+        }
+    }
+
+    /// Goes on behind the keyword or sign, which has to be in hand.
+    pub fn expect(&mut self, kind: Kind) -> Result<(), Stop>
+        ensures answer { Agrees (λ u. u) (res_map forgotten ((sign kind).parse self.old)) result self.old self.new }
+        ensures onward { length self.new ≤ length self.old }
+    {
+        if self.is_at(kind) {
+            self.step();
+            Ok(())
+        } else {
+            Err(Stop::Syntax)
+        }
+    }
+}
+
+// Whether the token is the keyword or sign.
+fn is_sign(token: Token<'_>, kind: Kind) -> bool
+    ensures { result ≡ is_kind kind (token_of token.entry) }
+{
+    match token {
+        Token::Sign(held) => held == kind,
+        _ => false,
     }
 }
