@@ -1,7 +1,7 @@
 //! The program: it collects the words, takes standard input, and writes to standard output and standard error.
 #![tactic(auto)]
 
-use lash_command::{report, run, Status};
+use lash_command::{Status, report, run};
 use lash_io::{StdSink, StdSource};
 use std::env;
 use std::io::{self, stderr, stdin, stdout};

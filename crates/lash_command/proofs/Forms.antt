@@ -42,8 +42,10 @@ not_ended bytes rest line digits b l none s = by_ends l s.ends
   where
     closed : s.line_end ≡ [] → rest ≡ digits ++ codes ";"
     closed e = rest_of bytes rest digits s b ∙ ap (λ x. digits ++ (codes ";" ++ x)) e ∙ ap (λ x. digits ++ x) (append-nil (codes ";"))
+
     feeding : s.line_end ≡ codes "\n" → rest ≡ (digits ++ codes ";") ++ codes "\n"
     feeding e = rest_of bytes rest digits s b ∙ ap (λ x. digits ++ (codes ";" ++ x)) e ∙ sym (append_assoc digits (codes ";") (codes "\n"))
+
     by_ends : IsLine rest line → (s.line_end ≡ []) ⊎ (s.line_end ≡ codes "\n") → ⊥
     by_ends (inl ended) (inl no_end) = no_two_ends digits line (sym (closed no_end) ∙ ended)
     by_ends (inl ended) (inr feed) = none digits (append_cancel_right line (digits ++ codes ";") (codes "\n") (sym ended ∙ feeding feed))
@@ -55,6 +57,7 @@ same_digits bytes digits other s t = by_ends s.ends t.ends
   where
     whole : digits ++ (codes ";" ++ s.line_end) ≡ other ++ (codes ";" ++ t.line_end)
     whole = append_cancel_left front _ _ (sym s.is ∙ t.is)
+
     by_ends : (s.line_end ≡ []) ⊎ (s.line_end ≡ codes "\n") → (t.line_end ≡ []) ⊎ (t.line_end ≡ codes "\n") → digits ≡ other
     by_ends (inl a) (inl b) = append_cancel_right digits other (codes ";") (sym (ap (λ x. digits ++ (codes ";" ++ x)) a ∙ ap (λ x. digits ++ x) (append-nil (codes ";"))) ∙ whole ∙ ap (λ x. other ++ (codes ";" ++ x)) b ∙ ap (λ x. other ++ x) (append-nil (codes ";")))
     by_ends (inl a) (inr b) = absurd (no_two_ends digits (other ++ codes ";") (sym (ap (λ x. digits ++ (codes ";" ++ x)) a ∙ ap (λ x. digits ++ x) (append-nil (codes ";"))) ∙ whole ∙ ap (λ x. other ++ (codes ";" ++ x)) b ∙ sym (append_assoc other (codes ";") (codes "\n"))))

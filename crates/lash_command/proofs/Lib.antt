@@ -1,2 +1,4 @@
 pub mod Forms
 pub mod Filling
+pub mod Term
+pub mod Explaining

@@ -5,7 +5,7 @@ ghost use Rattle.lash_command.specs.Answers.{Met, Explains, IsReported, line_of}
 
 use crate::form::read_form;
 use crate::show::show;
-use crate::status::{line, Status};
+use crate::status::{Status, line};
 use crate::taking::take_bytes;
 use lash_io::{Sink, Source};
 use std::alloc::Global;
@@ -34,12 +34,7 @@ pub fn run<S: Source, K: Sink, E: Sink>(
 }
 
 /// Takes the script and answers it.
-fn answer<S: Source, K: Sink>(
-    alloc: Global,
-    words: &[String],
-    input: &mut S,
-    out: &mut K,
-) -> Status
+fn answer<S: Source, K: Sink>(alloc: Global, words: &[String], input: &mut S, out: &mut K) -> Status
     ensures { Explains result (record { words = length words.now; left_before = S.left input.old; left_after = S.left input.new; read_faults_before = S.faults input.old; read_faults_after = S.faults input.new; held_before = K.held out.old; held_after = K.held out.new; write_faults_before = K.faults out.old; write_faults_after = K.faults out.new }) }
 {
     if !words.is_empty() {

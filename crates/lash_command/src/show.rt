@@ -4,11 +4,11 @@ ghost use Rattle.std.specs.Prelude.{◌≡◌, ◌<◌, ◌^◌, ◌++◌, ℕ, 
 ghost use Rattle.lash_command.specs.Answers.{Shows, at_most, x_int};
 
 use crate::status::Status;
-use canon_text::{write_table, Header};
+use canon_text::{Header, write_table};
 use digit_codes::Base;
 use formula_core::{Linear, Sort, Vars};
 use lash_io::{Memory, Sink};
-use linear_atoms::{atom_int, AtomKind};
+use linear_atoms::{AtomKind, atom_int};
 use std::alloc::Global;
 use step_tables::BuildError;
 

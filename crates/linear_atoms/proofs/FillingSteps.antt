@@ -31,15 +31,17 @@ place_within c m w l h k = grind arith
 rows_more : (base : ℕ) (totals ts : List ℤ) (state l : ℕ) (rows : List ℕ) (to : ℕ) → AreRows base totals ts (state * length totals + l) rows → l < length totals → state * length totals + l < length rows → to ≡ target_of base ts state (entry totals l) → AreRows base totals ts (state * length totals + (l + 1)) (slice_set rows (state * length totals + l) to)
 rows_more base totals ts state l rows to r inside place is = record {
   each = λ c k c_in k_in h. elim (cases_lt (c * length totals + k) (state * length totals + l)) [
-      inl before ↦ get_or-set_other rows (state * length totals + l) (c * length totals + k) to 0 (apart (c * length totals + k) before) ∙ r.each c k c_in k_in before
-    | inr last ↦ written c k k_in (omega (arith, h, last)) ];
+    | inl before ↦ get_or-set_other rows (state * length totals + l) (c * length totals + k) to 0 (apart (c * length totals + k) before) ∙ r.each c k c_in k_in before
+    | inr last ↦ written c k k_in (omega (arith, h, last))
+  ];
 }
   where
     apart : (p : ℕ) → p < state * length totals + l → p ≡ state * length totals + l → ⊥
     apart p h e = omega (arith, h, e)
+
     written : (c k : ℕ) → k < length totals → c * length totals + k ≡ state * length totals + l → slice_index_or (slice_set rows (state * length totals + l) to) (c * length totals + k) 0 ≡ target_of base ts c (entry totals k)
     written c k k_in e = let same = same_from_place c k state l (length totals) k_in inside e in
-      ap (λ p. slice_index_or (slice_set rows (state * length totals + l) to) p 0) e ∙ get_or-set_same rows (state * length totals + l) to 0 place ∙ is ∙ ap (λ x. target_of base ts x (entry totals l)) (sym same.0) ∙ ap (λ x. target_of base ts c (entry totals x)) (sym same.1)
+        ap (λ p. slice_index_or (slice_set rows (state * length totals + l) to) p 0) e ∙ get_or-set_same rows (state * length totals + l) to 0 place ∙ is ∙ ap (λ x. target_of base ts x (entry totals l)) (sym same.0) ∙ ap (λ x. target_of base ts c (entry totals x)) (sym same.1)
 
 -- the kept table with one target written
 pub filling_row : (kind : Comparison) (a : Linear) (base n : ℕ) (totals ts : List ℤ) (roots outs state l to : ℕ) (k : Kept) → IsFilling kind a base n totals ts roots (state * length totals + l) outs k → IsTable (record k.table { rows = slice_set k.table.rows (state * k.table.base ^ k.table.tracks + l) to }) → state < length ts + 1 → l < length totals → length totals ≡ base ^ n → to ≡ target_of base ts state (entry totals l) → IsFilling kind a base n totals ts roots (state * length totals + (l + 1)) outs (record k { table = record k.table { rows = slice_set k.table.rows (state * k.table.base ^ k.table.tracks + l) to } })
@@ -53,5 +55,6 @@ filling_row kind a base n totals ts roots outs state l to k f table state_in l_i
   where
     letters_are : length totals ≡ k.table.base ^ k.table.tracks
     letters_are = width ∙ ap (λ b. b ^ n) (sym f.shape.base_is) ∙ ap (λ m. k.table.base ^ m) (sym f.shape.tracks_are)
+
     rows_are : length k.table.rows ≡ (length ts + 1) * length totals
     rows_are = f.shape.table.rows_count ∙ ap (λ m. m * k.table.base ^ k.table.tracks) f.shape.states ∙ ap (λ m. (length ts + 1) * m) (sym letters_are)

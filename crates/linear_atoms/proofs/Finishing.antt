@@ -62,7 +62,7 @@ filled_counts kind a r n totals ts k t f = record {
   states = f.shape.states;
   roots = f.roots_filled.each;
   rows = λ c l c_in l_in. subst (λ w. slice_index_or k.table.rows (c * w + l) 0 ≡ target_of r ts c (letter_total a.terms r n l)) t.count
-    (f.rows_filled.each c l c_in (as_total l l_in) (place_within c (length ts + 1) (length totals) l c_in (as_total l l_in)) ∙ ap (target_of r ts c) (t.each l l_in));
+      (f.rows_filled.each c l c_in (as_total l l_in) (place_within c (length ts + 1) (length totals) l c_in (as_total l l_in)) ∙ ap (target_of r ts c) (t.each l l_in));
   outs = f.outs_filled.each;
 }
   where

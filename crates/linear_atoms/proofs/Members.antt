@@ -19,17 +19,23 @@ other_from_test x y h e = grind (arith, ints)
 pub among_from_test : (z : ℤ) (ks : List ℤ) → list_any (int_eq z) ks ≡ true → Among z ks
 among_from_test z [] h = cc
 among_from_test z (k ∷ ks) h = elim (int_eq z k) as (λ b. int_eq z k ≡ b → b || list_any (int_eq z) ks ≡ true → (z ≡ k) ⊎ Among z ks) [
-  true ↦ λ e g. inl (same_from_test z k e) | false ↦ λ e g. inr (among_from_test z ks g) ] refl h
+  | true ↦ λ e g. inl (same_from_test z k e)
+  | false ↦ λ e g. inr (among_from_test z ks g)
+] refl h
 
 pub not_among_from_test : (z : ℤ) (ks : List ℤ) → list_any (int_eq z) ks ≡ false → Among z ks → ⊥
 not_among_from_test z [] h a = a
 not_among_from_test z (k ∷ ks) h (inl here) = elim (int_eq z k) as (λ b. int_eq z k ≡ b → b || list_any (int_eq z) ks ≡ false → ⊥) [
-  true ↦ λ e g. absurd (true_false g) | false ↦ λ e g. other_from_test z k e here ] refl h
+  | true ↦ λ e g. absurd (true_false g)
+  | false ↦ λ e g. other_from_test z k e here
+] refl h
   where
     true_false : true ≡ false → ⊥
     true_false e = cc
 not_among_from_test z (k ∷ ks) h (inr there) = elim (int_eq z k) as (λ b. b || list_any (int_eq z) ks ≡ false → (list_any (int_eq z) ks ≡ false → ⊥) → ⊥) [
-  true ↦ λ g f. absurd (true_false g) | false ↦ λ g f. f g ] h (λ g. not_among_from_test z ks g there)
+  | true ↦ λ g f. absurd (true_false g)
+  | false ↦ λ g f. f g
+] h (λ g. not_among_from_test z ks g there)
   where
     true_false : true ≡ false → ⊥
     true_false e = cc

@@ -28,9 +28,9 @@ length-push (k ∷ ks) z = ap suc (length-push ks z)
 
 distinct-push : (ks : List ℤ) (z : ℤ) → IsDistinct ks → (Among z ks → ⊥) → IsDistinct (ks ++ z ∷ [])
 distinct-push ks z d new i j e less inside = elim (cases_lt j (length ks)) [
-    inl before ↦ λ same. d i j e less before (sym (entry-append ks z i e (omega (arith, less, before))) ∙ same ∙ entry-append ks z j e before)
+  | inl before ↦ λ same. d i j e less before (sym (entry-append ks z i e (omega (arith, less, before))) ∙ same ∙ entry-append ks z j e before)
   | inr last ↦ λ same. new (subst (λ y. Among y ks) (at_z (omega (arith, last, inside, length-push ks z)) same) (among_entry ks i (omega (arith, less, inside, length-push ks z))))
-  ]
+]
   where
     at_z : j ≡ length ks → slice_index_or (ks ++ z ∷ []) i e ≡ slice_index_or (ks ++ z ∷ []) j e → entry ks i ≡ z
     at_z is same = get_or_default ks i (pos 0) e (omega (arith, less, is)) ∙ sym (entry-append ks z i e (omega (arith, less, is))) ∙ same ∙ ap (λ k. slice_index_or (ks ++ z ∷ []) k e) is ∙ entry-last ks z e
@@ -112,6 +112,7 @@ closing_more base totals seeds ks js at l c inside h small m = record {
   where
     same : (i n : ℕ) → i < n + 1 → n ≤ i → n ≡ i
     same i n h k = omega (arith, h, k)
+
     kept : (i k : ℕ) → i < length ks → Among (lowered_by base (entry totals k) (entry ks i)) ks → Among (lowered_by base (entry totals k) (entry js i)) js
     kept i k lt a = subst (λ y. Among (lowered_by base (entry totals k) y) js) (sym (same_entry ks js (lowered_by base (entry totals l) (entry ks at)) i m lt)) (still ks js (lowered_by base (entry totals l) (entry ks at)) (lowered_by base (entry totals k) (entry ks i)) m a)
 
@@ -133,12 +134,12 @@ closing_next base totals seeds ks at c inside = record {
 reached : (base : ℕ) (totals seeds ks : List ℤ) → IsClosing base totals seeds ks (length ks) 0 → (z : ℤ) (w : List ℕ) → Among z ks → AllByRecursion (λ l. l < length totals) w → Among (lowered base (entry totals) z w) ks
 reached base totals seeds ks c z [] a letters = a
 reached base totals seeds ks c z (l ∷ w) a letters = let p = place_of z ks a in
-  reached base totals seeds ks c (lowered_by base (entry totals l) z) w (subst (λ y. Among (lowered_by base (entry totals l) y) ks) p.1.1 (c.followed p.0 l p.1.0 letters.0)) letters.1
+    reached base totals seeds ks c (lowered_by base (entry totals l) z) w (subst (λ y. Among (lowered_by base (entry totals l) y) ks) p.1.1 (c.followed p.0 l p.1.0 letters.0)) letters.1
 
 -- when all have been lowered, every threshold is found
 pub all_found : (base : ℕ) (totals seeds ks : List ℤ) → IsClosing base totals seeds ks (length ks) 0 → (z : ℤ) → IsThreshold base (length totals) (entry totals) seeds z → Among z ks
 all_found base totals seeds ks c z t = let p = place_of t.seed seeds t.given in
-  subst (λ y. Among y ks) t.leads (reached base totals seeds ks c t.seed t.word (subst (λ y. Among y ks) p.1.1 (c.given p.0 p.1.0)) t.letters)
+    subst (λ y. Among y ks) t.leads (reached base totals seeds ks c t.seed t.word (subst (λ y. Among y ks) p.1.1 (c.given p.0 p.1.0)) t.letters)
 
 pub small_met : (ks js : List ℤ) (z : ℤ) → All IsSmall ks → IsSmall z → Met ks z js → All IsSmall js
 small_met ks js z h small (known a e) = subst (All IsSmall) (sym e) h

@@ -24,8 +24,8 @@ same_test x y = grind (arith, ints)
 -- sorted and distinct numbers rise
 pub rising_from_sorted : (ks ts : List ℤ) → IsPermutation ks ts → IsDistinct int_eq ks → IsSorted int_cmp ts → AllPairs (λ x y. x <ℤ y) ts
 rising_from_sorted ks ts p distinct sorted i j d less inside = less_from_tests (slice_index_or ts i d) (slice_index_or ts j d)
-  (sorted_far (λ x y. is_lt (int_cmp x y)) (ranks_by int_cmp_total (λ (x : ℤ). x)) ts sorted i j d (omega arith) inside)
-  (apart_from_distinct int_eq ts i j d (IsDistinct-IsPermutation int_eq same_test ks ts p distinct) less inside)
+    (sorted_far (λ x y. is_lt (int_cmp x y)) (ranks_by int_cmp_total (λ (x : ℤ). x)) ts sorted i j d (omega arith) inside)
+    (apart_from_distinct int_eq ts i j d (IsDistinct-IsPermutation int_eq same_test ks ts p distinct) less inside)
 
 contains_from_among : (z : ℤ) (ks : List ℤ) → Among z ks → Contains ks z
 contains_from_among z [] a = absurd a

@@ -45,7 +45,7 @@ summing_more terms ns k at sum d digit s h e below =
     let opened : drop at terms ≡ t ∷ drop (suc at) terms = drop_at terms at d h in
     let next : suc at ≡ at + 1 = omega arith in
     let rest : ((t.1 *ℤ pos digit) +ℤ total (drop (at + 1) terms) ns) +ℤ sum ≡ total terms ns =
-      ap (λ i. ((t.1 *ℤ pos digit) +ℤ total (drop i terms) ns) +ℤ sum) (sym next) ∙ ap (λ x. ((t.1 *ℤ x) +ℤ total (drop (suc at) terms) ns) +ℤ sum) (sym e) ∙ ap (λ ts. total ts ns +ℤ sum) (sym opened) ∙ s.rest in
+    ap (λ i. ((t.1 *ℤ pos digit) +ℤ total (drop i terms) ns) +ℤ sum) (sym next) ∙ ap (λ x. ((t.1 *ℤ x) +ℤ total (drop (suc at) terms) ns) +ℤ sum) (sym e) ∙ ap (λ ts. total ts ns +ℤ sum) (sym opened) ∙ s.rest in
     let weight : coefficient_sum (drop at terms) ≡ unsigned_abs t.1 + coefficient_sum (drop (at + 1) terms) = ap coefficient_sum opened ∙ ap (λ i. unsigned_abs t.1 + coefficient_sum (drop i terms)) next in
     record {
       rest = moved (t.1 *ℤ pos digit) (total (drop (at + 1) terms) ns) sum (total terms ns) rest;
@@ -95,5 +95,6 @@ window_total terms base sum h k b = omega (arith, h, times_most (base - 1) (coef
   where
     times_most : (a c : ℕ) → c ≤ 2 ^ 24 → a * c ≤ a * 2 ^ 24
     times_most a c k = grind arith
+
     one_less : (b : ℕ) → 2 ≤ b → (b - 1) * 2 ^ 24 + 2 ^ 24 ≡ b * 2 ^ 24
     one_less b h = omega (arith, h)

@@ -11,7 +11,7 @@ ghost use Rattle.linear_atoms.specs.Closing.{IsSmall};
 ghost use Rattle.linear_atoms.specs.Kinds.{comparison_of};
 ghost use Rattle.linear_atoms.specs.Filling.{IsPlan, IsFilling};
 
-use crate::filling::{fill, Plan};
+use crate::filling::{Plan, fill};
 use crate::kind::AtomKind;
 use crate::thresholds::thresholds;
 use crate::totals::letter_totals;

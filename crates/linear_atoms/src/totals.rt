@@ -6,7 +6,7 @@ ghost use Rattle.lash_model.specs.Thresholds.{letter_total};
 ghost use Rattle.linear_atoms.specs.Closing.{IsSmallTotal};
 ghost use Rattle.linear_atoms.specs.Totals.{AreTotals};
 
-use digit_codes::{letter_digit, Base};
+use digit_codes::{Base, letter_digit};
 use formula_core::Linear;
 use std::alloc::Global;
 use step_tables::BuildError;

@@ -16,7 +16,7 @@ returns-in-Err-thresholds-clause-heavy c = λ e.
     let totals_are : c.deref.result.now ≡ c.in-Ok.totals.items = search rules in
     let seeds_are : c.deref-2.result.now ≡ seeds (comparison_of c.args.kind) c.args.atom.now.constant = search rules in
     let o : IsOverfull c.args.base c.in-Ok.totals.items (seeds (comparison_of c.args.kind) c.args.atom.now.constant) c.room_for-room.result =
-      subst (λ ss. IsOverfull c.args.base c.in-Ok.totals.items ss c.room_for-room.result) seeds_are (subst (λ ts. IsOverfull c.args.base ts c.deref-2.result.now c.room_for-room.result) totals_are (subst (λ b. IsOverfull b c.deref.result.now c.deref-2.result.now c.room_for-room.result) base_is (c.in-Err-thresholds.ensures.heavy e))) in
+    subst (λ ss. IsOverfull c.args.base c.in-Ok.totals.items ss c.room_for-room.result) seeds_are (subst (λ ts. IsOverfull c.args.base ts c.deref-2.result.now c.room_for-room.result) totals_are (subst (λ b. IsOverfull b c.deref.result.now c.deref-2.result.now c.room_for-room.result) base_is (c.in-Err-thresholds.ensures.heavy e))) in
     atom_heavy (comparison_of c.args.kind) c.args.atom.now c.args.base c.args.tracks c.in-Ok.totals.items c.room_for-room.result c.args.limit c.in-Ok.ensures.totals o (search rules)
 
 pub table_of-requires-clause-plan : goal.table_of-requires-clause-plan
@@ -25,7 +25,7 @@ table_of-requires-clause-plan c =
     let totals_are : c.deref.result.now ≡ c.in-Ok.totals.items = search rules in
     let seeds_are : c.deref-2.result.now ≡ seeds (comparison_of c.args.kind) c.args.atom.now.constant = search rules in
     let a : AreThresholds c.args.base (length c.in-Ok.totals.items) (entry c.in-Ok.totals.items) (seeds (comparison_of c.args.kind) c.args.atom.now.constant) c.in-Ok-thresholds.thresholds.items =
-      subst (λ ss. AreThresholds c.args.base (length c.in-Ok.totals.items) (entry c.in-Ok.totals.items) ss c.in-Ok-thresholds.thresholds.items) seeds_are (subst (λ (ts : List ℤ). AreThresholds c.args.base (length ts) (entry ts) c.deref-2.result.now c.in-Ok-thresholds.thresholds.items) totals_are (subst (λ b. AreThresholds b (length c.deref.result.now) (entry c.deref.result.now) c.deref-2.result.now c.in-Ok-thresholds.thresholds.items) base_is c.in-Ok-thresholds.ensures.thresholds)) in
+    subst (λ ss. AreThresholds c.args.base (length c.in-Ok.totals.items) (entry c.in-Ok.totals.items) ss c.in-Ok-thresholds.thresholds.items) seeds_are (subst (λ (ts : List ℤ). AreThresholds c.args.base (length ts) (entry ts) c.deref-2.result.now c.in-Ok-thresholds.thresholds.items) totals_are (subst (λ b. AreThresholds b (length c.deref.result.now) (entry c.deref.result.now) c.deref-2.result.now c.in-Ok-thresholds.thresholds.items) base_is c.in-Ok-thresholds.ensures.thresholds)) in
     subst (λ ts. IsPlan c.args.base c.args.tracks c.args.atom.now ts c.deref-4.result.now) (sym c.deref-3.ensures.value) (subst (λ ts. IsPlan c.args.base c.args.tracks c.args.atom.now c.in-Ok.totals.items ts) (sym c.deref-4.ensures.value) (record {
       low = search rules;
       high = search rules;
@@ -46,9 +46,9 @@ returns-in-Ok-table_of-clause-counts c =
     let totals_are : c.deref.result.now ≡ c.in-Ok.totals.items = search rules in
     let seeds_are : c.deref-2.result.now ≡ seeds (comparison_of c.args.kind) c.args.atom.now.constant = search rules in
     let a : AreThresholds c.args.base (length c.in-Ok.totals.items) (entry c.in-Ok.totals.items) (seeds (comparison_of c.args.kind) c.args.atom.now.constant) c.in-Ok-thresholds.thresholds.items =
-      subst (λ ss. AreThresholds c.args.base (length c.in-Ok.totals.items) (entry c.in-Ok.totals.items) ss c.in-Ok-thresholds.thresholds.items) seeds_are (subst (λ (ts : List ℤ). AreThresholds c.args.base (length ts) (entry ts) c.deref-2.result.now c.in-Ok-thresholds.thresholds.items) totals_are (subst (λ b. AreThresholds b (length c.deref.result.now) (entry c.deref.result.now) c.deref-2.result.now c.in-Ok-thresholds.thresholds.items) base_is c.in-Ok-thresholds.ensures.thresholds)) in
+    subst (λ ss. AreThresholds c.args.base (length c.in-Ok.totals.items) (entry c.in-Ok.totals.items) ss c.in-Ok-thresholds.thresholds.items) seeds_are (subst (λ (ts : List ℤ). AreThresholds c.args.base (length ts) (entry ts) c.deref-2.result.now c.in-Ok-thresholds.thresholds.items) totals_are (subst (λ b. AreThresholds b (length c.deref.result.now) (entry c.deref.result.now) c.deref-2.result.now c.in-Ok-thresholds.thresholds.items) base_is c.in-Ok-thresholds.ensures.thresholds)) in
     let filled : IsFilling (comparison_of c.args.kind) c.args.atom.now c.args.base c.args.tracks c.in-Ok.totals.items c.in-Ok-thresholds.thresholds.items (2 ^ c.args.tracks) ((length c.in-Ok-thresholds.thresholds.items + 1) * length c.in-Ok.totals.items) (length c.in-Ok-thresholds.thresholds.items + 1) c.in-Ok-table_of.table =
-      subst (λ (ts : List ℤ). IsFilling (comparison_of c.args.kind) c.args.atom.now c.args.base c.args.tracks ts c.in-Ok-thresholds.thresholds.items (2 ^ c.args.tracks) ((length c.in-Ok-thresholds.thresholds.items + 1) * length ts) (length c.in-Ok-thresholds.thresholds.items + 1) c.in-Ok-table_of.table) c.deref-3.ensures.value (subst (λ (ts : List ℤ). IsFilling (comparison_of c.args.kind) c.args.atom.now c.args.base c.args.tracks c.deref-3.result.now ts (2 ^ c.args.tracks) ((length ts + 1) * length c.deref-3.result.now) (length ts + 1) c.in-Ok-table_of.table) c.deref-4.ensures.value c.in-Ok-table_of.ensures.filled) in
+    subst (λ (ts : List ℤ). IsFilling (comparison_of c.args.kind) c.args.atom.now c.args.base c.args.tracks ts c.in-Ok-thresholds.thresholds.items (2 ^ c.args.tracks) ((length c.in-Ok-thresholds.thresholds.items + 1) * length ts) (length c.in-Ok-thresholds.thresholds.items + 1) c.in-Ok-table_of.table) c.deref-3.ensures.value (subst (λ (ts : List ℤ). IsFilling (comparison_of c.args.kind) c.args.atom.now c.args.base c.args.tracks c.deref-3.result.now ts (2 ^ c.args.tracks) ((length ts + 1) * length c.deref-3.result.now) (length ts + 1) c.in-Ok-table_of.table) c.deref-4.ensures.value c.in-Ok-table_of.ensures.filled) in
     atom_table (comparison_of c.args.kind) c.args.atom.now c.args.base c.args.tracks c.in-Ok.totals.items c.in-Ok-thresholds.thresholds.items c.room_for-room.result c.args.limit c.in-Ok-table_of.table c.in-Ok.ensures.totals a c.in-Ok-thresholds.ensures.within (search rules) filled
 
 pub returns-in-Ok-table_of-clause-stands : goal.returns-in-Ok-table_of-clause-stands

@@ -17,12 +17,12 @@ loop-term-preserved c =
     let fits : SFits w128 c.with_product-sum.result = search rules in
     let sum : ℤ = to_z w128 c.loop-term.sum-bits in
     let more : IsSumming c.args.atom.now.terms (letter_digits c.args.base c.args.tracks c.args.letter) (c.args.base - 1) (c.loop-term.term-index + 1) (sum +ℤ ((term_at c.args.atom.now.terms c.loop-term.term-index).1 *ℤ pos c.letter_digit-digit.result)) =
-      summing_more c.args.atom.now.terms (letter_digits c.args.base c.args.tracks c.args.letter) (c.args.base - 1) c.loop-term.term-index sum (0, pos 0) c.letter_digit-digit.result c.loop-term.invariant inside
-        (entry-letter_digits c.args.base c.args.tracks c.args.letter (term_at c.args.atom.now.terms c.loop-term.term-index).0 place ∙ ap pos (sym is))
-        (omega (arith, is, digit_below c.args.base c.args.tracks c.args.letter (term_at c.args.atom.now.terms c.loop-term.term-index).0 (omega arith) place c.requires.letter)) in
+    summing_more c.args.atom.now.terms (letter_digits c.args.base c.args.tracks c.args.letter) (c.args.base - 1) c.loop-term.term-index sum (0, pos 0) c.letter_digit-digit.result c.loop-term.invariant inside
+    (entry-letter_digits c.args.base c.args.tracks c.args.letter (term_at c.args.atom.now.terms c.loop-term.term-index).0 place ∙ ap pos (sym is))
+    (omega (arith, is, digit_below c.args.base c.args.tracks c.args.letter (term_at c.args.atom.now.terms c.loop-term.term-index).0 (omega arith) place c.requires.letter)) in
     subst (λ x. IsSumming c.args.atom.now.terms (letter_digits c.args.base c.args.tracks c.args.letter) (c.args.base - 1) (c.loop-term.term-index + 1) x)
-      (ap (λ (ts : List (ℕ × ℤ)). sum +ℤ ((term_at ts c.loop-term.term-index).1 *ℤ pos c.letter_digit-digit.result)) (sym items) ∙ sym c.with_product-sum.ensures ∙ sym (to_z-of_z w128 c.with_product-sum.result fits))
-      more
+    (ap (λ (ts : List (ℕ × ℤ)). sum +ℤ ((term_at ts c.loop-term.term-index).1 *ℤ pos c.letter_digit-digit.result)) (sym items) ∙ sym c.with_product-sum.ensures ∙ sym (to_z-of_z w128 c.with_product-sum.result fits))
+    more
 
 pub with_product-sum-requires-clause-coefficient : goal.with_product-sum-requires-clause-coefficient
 with_product-sum-requires-clause-coefficient c =
