@@ -4,7 +4,7 @@
 use lash_command::{Status, report, run};
 use lash_io::{StdSink, StdSource};
 use std::env;
-use std::io::{self, stderr, stdin, stdout};
+use std::io;
 use std::process::ExitCode;
 
 /// The words after the program's name, or how the program ends without them: a word is no text, or there was no memory.

@@ -9,3 +9,6 @@ mod taking;
 
 pub use program::{report, run};
 pub use status::Status;
+
+#[cfg(test)]
+mod tests;
