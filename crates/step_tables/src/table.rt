@@ -5,7 +5,7 @@ ghost use Rattle.std.specs.Prelude.{◌≡◌, ℕ, ◌+◌, ◌*◌, ◌<◌, �
 ghost use Rattle.graph_laws.specs.Walks.{go, copies};
 ghost use Rattle.lash_model.specs.Acceptance.{accepts_word, accepts_lasso};
 ghost use Rattle.lash_model.specs.Lassos.{IsLasso};
-ghost use Rattle.lash_model.specs.Tables.{IsShape, IsTable, IsDiagram, out_bound};
+ghost use Rattle.lash_model.specs.Tables.{IsShape, IsTable, IsDiagram, letters, ints, fracs, out_bound};
 ghost use Rattle.digit_codes.specs.Reading.{lasso_of};
 ghost use Rattle.step_tables.specs.Kept.{plain, zeros};
 
@@ -95,7 +95,7 @@ impl<C: Cells> Table<C> {
 
     /// The number of letters, the base to the number of tracks.
     pub fn letters(&self) -> u32
-        ensures value { result ≡ self.now.table.base ^ self.now.table.tracks }
+        ensures value { result ≡ letters self.now.table }
         ensures table { IsTable self.now.table }
     {
         self.letters
@@ -103,14 +103,14 @@ impl<C: Cells> Table<C> {
 
     /// The number of integer states.
     pub fn ints(&self) -> u32
-        ensures { result ≡ length self.now.table.outs }
+        ensures { result ≡ ints self.now.table }
     {
         self.ints
     }
 
     /// The number of fraction states.
     pub fn fracs(&self) -> u32
-        ensures { result ≡ length self.now.table.colours }
+        ensures { result ≡ fracs self.now.table }
     {
         self.fracs
     }
@@ -119,43 +119,43 @@ impl<C: Cells> Table<C> {
     pub fn root(&self, sign: u32) -> u32
         requires { sign < 2 ^ self.now.table.tracks }
         ensures value { result ≡ slice_index self.now.table.roots sign }
-        ensures below { result < length self.now.table.outs }
+        ensures below { result < ints self.now.table }
     {
         self.roots.get(sign as usize)
     }
 
     /// The integer state behind a letter.
     pub fn int_step(&self, state: u32, letter: u32) -> u32
-        requires state { state < length self.now.table.outs }
-        requires letter { letter < self.now.table.base ^ self.now.table.tracks }
-        ensures value { result ≡ slice_index self.now.table.rows (state * self.now.table.base ^ self.now.table.tracks + letter) }
-        ensures below { result < length self.now.table.outs }
+        requires state { state < ints self.now.table }
+        requires letter { letter < letters self.now.table }
+        ensures value { result ≡ slice_index self.now.table.rows (state * letters self.now.table + letter) }
+        ensures below { result < ints self.now.table }
     {
         self.rows.get(entry_at(state, self.letters, letter))
     }
 
     /// The output of an integer state.
     pub fn out(&self, state: u32) -> u32
-        requires { state < length self.now.table.outs }
+        requires { state < ints self.now.table }
         ensures value { result ≡ slice_index self.now.table.outs state }
-        ensures below { result < out_bound (length self.now.table.colours) }
+        ensures below { result < out_bound (fracs self.now.table) }
     {
         self.outs.get(state as usize)
     }
 
     /// The fraction state behind a letter.
     pub fn frac_step(&self, state: u32, letter: u32) -> u32
-        requires state { state < length self.now.table.colours }
-        requires letter { letter < self.now.table.base ^ self.now.table.tracks }
-        ensures value { result ≡ slice_index self.now.table.frac_rows (state * self.now.table.base ^ self.now.table.tracks + letter) }
-        ensures below { result < length self.now.table.colours }
+        requires state { state < fracs self.now.table }
+        requires letter { letter < letters self.now.table }
+        ensures value { result ≡ slice_index self.now.table.frac_rows (state * letters self.now.table + letter) }
+        ensures below { result < fracs self.now.table }
     {
         self.frac_rows.get(entry_at(state, self.letters, letter))
     }
 
     /// Whether a fraction state has the colour yes.
     pub fn colour(&self, state: u32) -> bool
-        requires { state < length self.now.table.colours }
+        requires { state < fracs self.now.table }
         ensures { result ≡ nat_eq (slice_index self.now.table.colours state) 1 }
     {
         self.colours.get(state as usize) == 1
@@ -164,7 +164,7 @@ impl<C: Cells> Table<C> {
     /// Changes the root of a sign vector.
     pub fn set_root(&mut self, sign: u32, to: u32)
         requires sign { sign < 2 ^ self.old.table.tracks }
-        requires to { to < length self.old.table.outs }
+        requires to { to < ints self.old.table }
         requires bound { to < self.old.bounds.roots }
         ensures changed { self.new ≡ record self.old { table = record self.old.table { roots = slice_set self.old.table.roots sign to } } }
         ensures table { IsTable self.new.table }
@@ -174,11 +174,11 @@ impl<C: Cells> Table<C> {
 
     /// Changes the target of an integer state and a letter.
     pub fn set_int(&mut self, state: u32, letter: u32, to: u32)
-        requires state { state < length self.old.table.outs }
-        requires letter { letter < self.old.table.base ^ self.old.table.tracks }
-        requires to { to < length self.old.table.outs }
+        requires state { state < ints self.old.table }
+        requires letter { letter < letters self.old.table }
+        requires to { to < ints self.old.table }
         requires bound { to < self.old.bounds.rows }
-        ensures changed { self.new ≡ record self.old { table = record self.old.table { rows = slice_set self.old.table.rows (state * self.old.table.base ^ self.old.table.tracks + letter) to } } }
+        ensures changed { self.new ≡ record self.old { table = record self.old.table { rows = slice_set self.old.table.rows (state * letters self.old.table + letter) to } } }
         ensures table { IsTable self.new.table }
     {
         self.rows.set(entry_at(state, self.letters, letter), to);
@@ -186,8 +186,8 @@ impl<C: Cells> Table<C> {
 
     /// Changes the output of an integer state.
     pub fn set_out(&mut self, state: u32, to: u32)
-        requires state { state < length self.old.table.outs }
-        requires to { to < out_bound (length self.old.table.colours) }
+        requires state { state < ints self.old.table }
+        requires to { to < out_bound (fracs self.old.table) }
         requires bound { to < self.old.bounds.outs }
         ensures changed { self.new ≡ record self.old { table = record self.old.table { outs = slice_set self.old.table.outs state to } } }
         ensures table { IsTable self.new.table }
@@ -197,11 +197,11 @@ impl<C: Cells> Table<C> {
 
     /// Changes the target of a fraction state and a letter.
     pub fn set_frac(&mut self, state: u32, letter: u32, to: u32)
-        requires state { state < length self.old.table.colours }
-        requires letter { letter < self.old.table.base ^ self.old.table.tracks }
-        requires to { to < length self.old.table.colours }
+        requires state { state < fracs self.old.table }
+        requires letter { letter < letters self.old.table }
+        requires to { to < fracs self.old.table }
         requires bound { to < self.old.bounds.frac_rows }
-        ensures changed { self.new ≡ record self.old { table = record self.old.table { frac_rows = slice_set self.old.table.frac_rows (state * self.old.table.base ^ self.old.table.tracks + letter) to } } }
+        ensures changed { self.new ≡ record self.old { table = record self.old.table { frac_rows = slice_set self.old.table.frac_rows (state * letters self.old.table + letter) to } } }
         ensures table { IsTable self.new.table }
     {
         self.frac_rows
@@ -210,7 +210,7 @@ impl<C: Cells> Table<C> {
 
     /// Changes the colour of a fraction state.
     pub fn set_colour(&mut self, state: u32, yes: bool)
-        requires { state < length self.old.table.colours }
+        requires { state < fracs self.old.table }
         ensures changed { self.new ≡ record self.old { table = record self.old.table { colours = slice_set self.old.table.colours state (if yes then 1 else 0) } } }
         ensures table { IsTable self.new.table }
     {
@@ -219,10 +219,10 @@ impl<C: Cells> Table<C> {
 
     /// The integer state behind a word, read from an integer state.
     pub fn run_word(&self, state: u32, word: &[u32]) -> u32
-        requires state { state < length self.now.table.outs }
-        requires letters { All (λ l. l < self.now.table.base ^ self.now.table.tracks) word.now }
-        ensures value { result ≡ go self.now.table.rows (self.now.table.base ^ self.now.table.tracks) state word.now }
-        ensures below { result < length self.now.table.outs }
+        requires state { state < ints self.now.table }
+        requires letters { All (λ l. l < letters self.now.table) word.now }
+        ensures value { result ≡ go self.now.table.rows (letters self.now.table) state word.now }
+        ensures below { result < ints self.now.table }
     {
         let mut at = state;
         for letter in word {
@@ -233,10 +233,10 @@ impl<C: Cells> Table<C> {
 
     /// The fraction state behind a word, read from a fraction state.
     pub fn run_frac(&self, state: u32, word: &[u32]) -> u32
-        requires state { state < length self.now.table.colours }
-        requires letters { All (λ l. l < self.now.table.base ^ self.now.table.tracks) word.now }
-        ensures value { result ≡ go self.now.table.frac_rows (self.now.table.base ^ self.now.table.tracks) state word.now }
-        ensures below { result < length self.now.table.colours }
+        requires state { state < fracs self.now.table }
+        requires letters { All (λ l. l < letters self.now.table) word.now }
+        ensures value { result ≡ go self.now.table.frac_rows (letters self.now.table) state word.now }
+        ensures below { result < fracs self.now.table }
     {
         let mut at = state;
         for letter in word {
@@ -247,10 +247,10 @@ impl<C: Cells> Table<C> {
 
     /// The fraction state behind as many turns of a cycle as there are fraction states.
     fn run_turns(&self, state: u32, cycle: &[u32]) -> u32
-        requires state { state < length self.now.table.colours }
-        requires letters { All (λ l. l < self.now.table.base ^ self.now.table.tracks) cycle.now }
-        ensures value { result ≡ go self.now.table.frac_rows (self.now.table.base ^ self.now.table.tracks) state (copies (length self.now.table.colours) cycle.now) }
-        ensures below { result < length self.now.table.colours }
+        requires state { state < fracs self.now.table }
+        requires letters { All (λ l. l < letters self.now.table) cycle.now }
+        ensures value { result ≡ go self.now.table.frac_rows (letters self.now.table) state (copies (fracs self.now.table) cycle.now) }
+        ensures below { result < fracs self.now.table }
     {
         let mut at = state;
         for _turn in 0..self.fracs {
@@ -264,7 +264,7 @@ impl<C: Cells> Table<C> {
     pub fn accepts(&self, lasso: &Lasso) -> bool
         requires { IsLasso self.now.table.base self.now.table.tracks (lasso_of lasso.now) }
         ensures diagram { IsDiagram self.now.table → result ≡ accepts_word self.now.table lasso.now.sign lasso.now.whole }
-        ensures fractions { 0 < length self.now.table.colours → result ≡ accepts_lasso self.now.table (lasso_of lasso.now) }
+        ensures fractions { 0 < fracs self.now.table → result ≡ accepts_lasso self.now.table (lasso_of lasso.now) }
     {
         let state = self.run_word(self.root(lasso.sign), lasso.whole.letters());
         let out = self.out(state);
