@@ -1,5 +1,6 @@
 -- Canonical diagrams: every state is reached, states are numbered by their least paths, and no two behave alike (own numbering).
-use Rattle.std.specs.Prelude.{ℕ, ◌<◌, ◌≡◌, List, length, slice_index}
+use Rattle.std.specs.Prelude.{ℕ, ◌^◌, ◌<◌, ◌≡◌, List, length, slice_index}
+use Rattle.lash_model.specs.Acceptance.{accepts_word}
 use Rattle.std.specs.List.{AllByRecursion}
 use Rattle.graph_laws.specs.Walks.{go}
 use Rattle.graph_laws.specs.Paths.{Path, AtMost, path_at, IsRising}
@@ -35,3 +36,7 @@ pub record IsCanonical (t : Table) : Type 0 where
   pub diagram : IsDiagram t
   pub numbered : IsNumbered t.roots t.rows (letters t) (ints t)
   pub separated : IsSeparated t.rows (letters t) t.outs
+
+-- the two diagrams accept the same words, under each sign vector
+abbrev pub AcceptSameWords : Table → Table → Type 0
+AcceptSameWords t u = (sign : ℕ) (w : List ℕ) → sign < 2 ^ t.tracks → AllByRecursion (λ l. l < letters t) w → accepts_word t sign w ≡ accepts_word u sign w

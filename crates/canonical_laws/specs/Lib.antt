@@ -1,2 +1,3 @@
 pub mod Behaviour
 pub mod Canonical
+pub mod Twins
