@@ -1,2 +1,3 @@
 pub mod Uniqueness
 pub mod Diagrams
+pub mod TextReading

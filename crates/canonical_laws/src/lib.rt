@@ -1,8 +1,10 @@
 //! The laws of canonical automata: classes of states of equal behaviour, numbering by least paths, and uniqueness.
 #![tactic(auto)]
 
-ghost use Rattle.std.specs.Prelude.{◌≡◌, ℕ, ◌+◌, ◌*◌, ◌<◌, Bool, IsTrue, length, slice_index};
-ghost use Rattle.lash_model.specs.Tables.{Table};
+ghost use Rattle.std.specs.Prelude.{◌≡◌, ℕ, List, ◌+◌, ◌*◌, ◌<◌, Bool, IsTrue, length, slice_index};
+ghost use Rattle.lash_model.specs.Formulas.{Sort};
+ghost use Rattle.lash_model.specs.Tables.{Table, IsTable, IsDiagram};
+ghost use Rattle.lash_model.specs.Text.{text_of};
 ghost use Rattle.canonical_laws.specs.Canonical.{IsCanonical, AcceptSameWords};
 ghost use Rattle.canonical_laws.specs.Twins.{Part, IsMinimal, IsOneToOne, AreRelated};
 
@@ -18,5 +20,11 @@ pub fn minimal_parts_are_unique()
 /// Two canonical diagrams of one base and number of tracks that accept the same words are equal.
 pub fn canonical_diagrams_are_unique()
     ensures { (t u : Table) → IsCanonical t → IsCanonical u → t.base ≡ u.base → t.tracks ≡ u.tracks → AcceptSameWords t u → t ≡ u }
+{
+}
+
+/// Two diagrams of one base and number of tracks that have one text, under one list of variables, are equal.
+pub fn texts_tell_diagrams()
+    ensures { (vs : List (List ℕ × Sort)) (t u : Table) → IsTable t → IsTable u → IsDiagram t → IsDiagram u → t.base ≡ u.base → t.tracks ≡ u.tracks → text_of vs t ≡ text_of vs u → t ≡ u }
 {
 }
