@@ -1,7 +1,7 @@
 -- x is a name, since it is a letter and no keyword has one letter alone.
 use mathlib.Core.Logic.{inl}
 use Rattle.std.proofs.Common.{rules}
-use Rattle.formula_core.specs.Names.{IsName, keywords}
+use Rattle.formula_core.specs.Names.{keywords}
 use Rattle.canon_text.proofs.tests.header_of.Goals as goal
 
 pub add-requires-clause-named : goal.add-requires-clause-named
