@@ -1,10 +1,10 @@
 -- Steps of writing through a block: puts that went well, then one that failed.
-use Rattle.std.proofs.Common.{◌≡◌, ℕ, List, [], ◌++◌, Option, Result, Ok, Err, subst, ap, sym, ◌∙◌, append_assoc}
+use Rattle.std.proofs.Common.{◌≡◌, ℕ, List, [], ◌++◌, Option, Result, Ok, Err, subst, append_assoc}
 use Rattle.std.specs.Result.{IsErr}
 use Rattle.lash_io.specs.Sinks.{HoldsPart, Puts}
 use Rattle.lash_io.specs.Blocks.{Moves, Passes}
 use Rattle.lash_io.proofs.Holding.{part_more}
-use Rattle.lash_io.proofs.Moving.{passes_then, passes_failed, moves_then_flush_part}
+use Rattle.lash_io.proofs.Moving.{passes_then, passes_failed}
 use Rattle.lash_model.proofs.Texts.{Fronted}
 
 -- a put that went well, then others with either answer

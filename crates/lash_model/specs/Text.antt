@@ -1,6 +1,6 @@
 -- The text of an automaton (own): a line for the base, the variables, the numbers of states and the roots, then a line for each
 -- state with its output or colour and its targets. Lines end with LF, words on a line are parted by one space.
-use Rattle.std.specs.Prelude.{ℕ, zero, suc, ◌+◌, ◌*◌, ◌^◌, Bool, List, [], ◌∷◌, ◌++◌, length, slice_index, codes, decimal, nat_eq, if◌then◌else◌}
+use Rattle.std.specs.Prelude.{ℕ, zero, suc, ◌+◌, ◌*◌, ◌^◌, Bool, List, [], ◌∷◌, ◌++◌, slice_index, codes, decimal, nat_eq, if◌then◌else◌}
 use Rattle.lash_model.specs.Formulas.{Sort, Int, Real}
 use Rattle.lash_model.specs.Tables.{Table, letters, ints, fracs}
 

@@ -1,6 +1,6 @@
 -- The roots of the first sign vectors were put.
-use Rattle.std.proofs.Common.{◌≤◌, ◌^◌, slice_index_or, ◌<◌, arith, length}
-use Rattle.lash_model.specs.Text.{texts_upto, number_text}
+use Rattle.std.proofs.Common.{◌^◌, slice_index_or, ◌<◌, arith}
+use Rattle.lash_model.specs.Text.{number_text}
 use Rattle.lash_model.proofs.Texts.{upto_more, upto_parted}
 use Rattle.lash_io.proofs.Moving.{moves_none, moves_then}
 use Rattle.canon_text.proofs.Steps.{cut_in_loop}

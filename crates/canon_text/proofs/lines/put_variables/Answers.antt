@@ -7,8 +7,7 @@ use Rattle.canon_text.proofs.lines.put_variables.Goals as goal
 
 pub loop-at-preserved : goal.loop-at-preserved
 loop-at-preserved g c =
-    let inside : c.loop-at.at < length c.args.vars.now = omega arith in
-    (
+    let inside : c.loop-at.at < length c.args.vars.now = omega arith in (
       rw (variable_more c.args.vars.now c.sorts.result.now c.name.result.now c.loop-at.at inside c.name.ensures.name c.sorts.ensures) (moves_then _ _ _ _ _ _ _ _ c.loop-at.invariant.0 c.in_ok-put_variable.ensures.bytes),
       omega (arith, c.in_ok-put_variable.ensures.count),
     )
