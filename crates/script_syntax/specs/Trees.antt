@@ -5,7 +5,7 @@ use Rattle.script_tokens.specs.Tokens.{PlacedToken}
 use Rattle.lash_model.specs.Formulas.{Sort}
 use Rattle.formula_core.specs.Variables.{sort_of}
 use Rattle.script_tokens.specs.declared.kind.Kind.TheVariants as kind
-use Rattle.script_grammar.specs.Views.{Adding, Plus, Minus, adding, adding_view, is_adding, Relation, AtMost, Below, AtLeast, Above, Equal, Unequal, Quantifier, Exists, Forall, relation_view, sort_view, is, sign}
+use Rattle.script_grammar.specs.Views.{Adding, Plus, Minus, adding, adding_view, is_adding, Relation, AtMost, Below, AtLeast, Above, Equal, Unequal, Quantifier, Exists, Forall, relation, is, sign}
 use Rattle.script_grammar.specs.Terms.{scaled, part, tail, term, terms, arguments, called, compared, named, unnamed, atom, declaration, declarations}
 use Rattle.script_syntax.specs.Reading.{folded, rest_of}
 use Rattle.script_syntax.specs.declared.tree.NameAt.{NameAt}
@@ -135,9 +135,17 @@ pub data TreeShape : Type 0 where
   Equivalent : TreeShape → TreeShape → TreeShape
   Quantified : Quantifier → List DeclarationShape → TreeShape → TreeShape
 
+-- what a table's token holds besides its place
+abbrev pub without_place : {A : Type 0} → Pair A ℕ → A
+without_place x = x.left
+
+-- a comparison whose left side is given
+abbrev pub related_shape : List SignedShape → (both relation term).Tree → TreeShape
+related_shape s x = Compare s x.left.left (term_shape x.right)
+
 -- a comparison whose first part is given
 abbrev pub compared_shape : SignedShape → compared.Tree → TreeShape
-compared_shape s x = Compare (folded add_part (s ∷ []) x.left) x.right.left.left (term_shape x.right.right)
+compared_shape s x = related_shape (folded add_part (s ∷ []) x.left) x.right
 
 abbrev pub named_shape : Named → Either called.Tree compared.Tree → TreeShape
 named_shape name (first x) = Call name (called_shape x)
@@ -147,10 +155,14 @@ abbrev pub lead_shape : Either (Pair ℕ part.Tree) scaled.Tree → SignedShape
 lead_shape (first x) = record { minus = true; part = part_shape x.right }
 lead_shape (other x) = record { minus = false; part = scaled_part x }
 
+-- a call or a comparison
+abbrev pub claim_shape : Either named.Tree unnamed.Tree → TreeShape
+claim_shape (first x) = named_shape x.left x.right
+claim_shape (other x) = compared_shape (lead_shape x.left) x.right
+
 abbrev pub atom_shape : atom.Tree → TreeShape
 atom_shape (first x) = Truth x.left
-atom_shape (other (first x)) = named_shape x.left x.right
-atom_shape (other (other x)) = compared_shape (lead_shape x.left) x.right
+atom_shape (other x) = claim_shape x
 
 -- the same of the program's trees
 abbrev pub named_of : NameAt → Named
@@ -193,20 +205,14 @@ tree_of (DeclaredImplies' p f q g) = Implies (tree_of f) (tree_of g)
 tree_of (DeclaredEquivalent' p f q g) = Equivalent (tree_of f) (tree_of g)
 tree_of (DeclaredQuantified' w ds p f) = Quantified (quantifier_of w) (map declaration_of ds.items) (tree_of f)
 
--- the relation in hand
-abbrev pub relation_at : List PlacedToken → Option Relation
-relation_at [] = None
-relation_at (t ∷ ts) = relation_view t.token
-
 abbrev pub relation_shown : Option DeclaredRelation → Option Relation
 relation_shown None = None
 relation_shown (Some r) = Some (relation_of r)
 
--- the sort in hand
-abbrev pub sort_at : List PlacedToken → Option Sort
-sort_at [] = None
-sort_at (t ∷ ts) = sort_view t.token
-
 abbrev pub sort_shown : Option DeclaredSort → Option Sort
 sort_shown None = None
 sort_shown (Some s) = Some (sort_of s)
+
+abbrev pub quantifier_shown : Option DeclaredQuantifier → Option Quantifier
+quantifier_shown None = None
+quantifier_shown (Some w) = Some (quantifier_of w)

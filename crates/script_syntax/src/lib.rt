@@ -1,6 +1,7 @@
 //! Trees of statements, and how they are read from tokens with one token in hand (recursive descent).
 #![tactic(auto)]
 
+mod atoms;
 mod cursor;
 mod terms;
 mod tree;
