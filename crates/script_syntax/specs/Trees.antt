@@ -7,6 +7,8 @@ use Rattle.formula_core.specs.Variables.{sort_of}
 use Rattle.script_tokens.specs.declared.kind.Kind.TheVariants as kind
 use Rattle.script_grammar.specs.Views.{Adding, Plus, Minus, adding, adding_view, is_adding, Relation, AtMost, Below, AtLeast, Above, Equal, Unequal, Quantifier, Exists, Forall, relation, is, sign}
 use Rattle.script_grammar.specs.Terms.{scaled, part, tail, term, terms, arguments, called, compared, named, unnamed, atom, declaration, declarations}
+use Rattle.script_grammar.specs.Formulas.{Form, Quant, Plain, Iff, OneImp, TwoImps, Imp, OneOr, TwoOrs, Or as GrammarOr, Ands, MoreAnds, NoAnd, OrAnd, And as GrammarAnd, Units, MoreUnits, NoUnit, AndUnit, Unary, Not as GrammarNot, Paren, Simple}
+use Rattle.script_grammar.specs.Statements.{header}
 use Rattle.script_syntax.specs.Reading.{folded, rest_of}
 use Rattle.script_syntax.specs.declared.tree.NameAt.{NameAt}
 use Rattle.script_syntax.specs.declared.tree.Part.{Part}
@@ -163,6 +165,57 @@ claim_shape (other x) = compared_shape (lead_shape x.left) x.right
 abbrev pub atom_shape : atom.Tree → TreeShape
 atom_shape (first x) = Truth x.left
 atom_shape (other x) = claim_shape x
+
+-- the declarations of a header
+abbrev pub perhaps_declared : Either declarations.Tree Unit → List DeclarationShape
+perhaps_declared (first x) = declarations_shape x
+perhaps_declared (other x) = []
+
+abbrev pub closed_declared : Pair (Either declarations.Tree Unit) ℕ → List DeclarationShape
+closed_declared x = perhaps_declared x.left
+
+abbrev pub header_shape : header.Tree → List DeclarationShape
+header_shape x = closed_declared x.right
+
+-- formulas: lists nest to the left
+abbrev mutual
+  pub form_shape : Form → TreeShape
+  form_shape (Quant w d p f) = Quantified w.left (declarations_shape d) (form_shape f)
+  form_shape (Plain i) = iff_shape i
+
+  pub iff_shape : Iff → TreeShape
+  iff_shape (OneImp a) = imp_shape a
+  iff_shape (TwoImps a p b) = Equivalent (imp_shape a) (imp_shape b)
+
+  pub imp_shape : Imp → TreeShape
+  imp_shape (OneOr a) = or_shape a
+  imp_shape (TwoOrs a p b) = Implies (or_shape a) (or_shape b)
+
+  pub or_shape : GrammarOr → TreeShape
+  or_shape (Ands a l) = more_ands_shape l (and_shape a)
+
+  pub more_ands_shape : MoreAnds → TreeShape → TreeShape
+  more_ands_shape NoAnd s = s
+  more_ands_shape (OrAnd p a l) s = more_ands_shape l (Or s (and_shape a))
+
+  pub and_shape : GrammarAnd → TreeShape
+  and_shape (Units a l) = more_units_shape l (unary_shape a)
+
+  pub more_units_shape : MoreUnits → TreeShape → TreeShape
+  more_units_shape NoUnit s = s
+  more_units_shape (AndUnit p a l) s = more_units_shape l (And s (unary_shape a))
+
+  pub unary_shape : Unary → TreeShape
+  unary_shape (GrammarNot p a) = Not (unary_shape a)
+  unary_shape (Paren p f q) = form_shape f
+  unary_shape (Simple a) = atom_shape a
+
+-- a unit more behind `and`, and what is behind `or`
+abbrev pub join_and : TreeShape → ℕ → TreeShape → TreeShape
+join_and s p t = And s t
+
+abbrev pub join_or : TreeShape → ℕ → TreeShape → TreeShape
+join_or s p t = Or s t
 
 -- the same of the program's trees
 abbrev pub named_of : NameAt → Named

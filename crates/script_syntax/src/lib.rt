@@ -3,6 +3,7 @@
 
 mod atoms;
 mod cursor;
+mod declarations;
 mod terms;
 mod tree;
 
