@@ -44,3 +44,8 @@ forgotten place = tt
 abbrev pub view_at : {A : Type 0} → (Token → Option A) → List PlacedToken → Option A
 view_at view [] = None
 view_at view (t ∷ ts) = view t.token
+
+-- a tree that is made, unless memory is wanting
+abbrev pub IsMade : {A B : Type 0} → (B → A) → A → Result B Stop → Type 0
+IsMade shape a (Ok b) = shape b ≡ a
+IsMade shape a (Err e) = e ≡ Memory

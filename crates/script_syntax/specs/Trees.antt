@@ -7,7 +7,7 @@ use Rattle.formula_core.specs.Variables.{sort_of}
 use Rattle.script_tokens.specs.declared.kind.Kind.TheVariants as kind
 use Rattle.script_grammar.specs.Views.{Adding, Plus, Minus, adding, adding_view, is_adding, Relation, AtMost, Below, AtLeast, Above, Equal, Unequal, Quantifier, Exists, Forall, relation, is, sign}
 use Rattle.script_grammar.specs.Terms.{scaled, part, tail, term, terms, arguments, called, compared, named, unnamed, atom, declaration, declarations}
-use Rattle.script_grammar.specs.Formulas.{Form, Quant, Plain, Iff, OneImp, TwoImps, Imp, OneOr, TwoOrs, Or as GrammarOr, Ands, MoreAnds, NoAnd, OrAnd, And as GrammarAnd, Units, MoreUnits, NoUnit, AndUnit, Unary, Not as GrammarNot, Paren, Simple}
+use Rattle.script_grammar.specs.Formulas.{Form, Quant, Plain, Iff, OneImp, TwoImps, Imp, OneOr, TwoOrs, Or as GrammarOr, Ands, MoreAnds, NoAnd, OrAnd, And as GrammarAnd, Units, MoreUnits, NoUnit, AndUnit, Unary, Not as GrammarNot, Paren, Simple, Levels, unary_lang, and_lang}
 use Rattle.script_grammar.specs.Statements.{header}
 use Rattle.script_syntax.specs.Reading.{folded, rest_of}
 use Rattle.script_syntax.specs.declared.tree.NameAt.{NameAt}
@@ -216,6 +216,19 @@ join_and s p t = And s t
 
 abbrev pub join_or : TreeShape → ℕ → TreeShape → TreeShape
 join_or s p t = Or s t
+
+abbrev pub add_and : TreeShape → Pair ℕ Unary → TreeShape
+add_and s x = join_and s x.left (unary_shape x.right)
+
+abbrev pub add_or : TreeShape → Pair ℕ GrammarAnd → TreeShape
+add_or s x = join_or s x.left (and_shape x.right)
+
+-- what is still to be read of a list, behind what was
+abbrev pub units_read : Option Levels → ℕ → TreeShape → List PlacedToken → Res PlacedToken TreeShape
+units_read o n s ts = rest_of (is kind.And) (both (sign kind.And) (unary_lang o 0)).parse add_and n s ts
+
+abbrev pub ands_read : Option Levels → ℕ → TreeShape → List PlacedToken → Res PlacedToken TreeShape
+ands_read o n s ts = rest_of (is kind.Or) (both (sign kind.Or) (and_lang o 0)).parse add_or n s ts
 
 -- the same of the program's trees
 abbrev pub named_of : NameAt → Named

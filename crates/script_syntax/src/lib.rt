@@ -4,6 +4,7 @@
 mod atoms;
 mod cursor;
 mod declarations;
+mod formulas;
 mod terms;
 mod tree;
 
