@@ -1,7 +1,7 @@
 -- Names and sorts in two lists, seen as one list of pairs.
-use Rattle.std.proofs.Common.{◌≡◌, ℕ, suc, zero, ◌<◌, List, [], ◌∷◌, ◌++◌, length, map, get_or, arith, refl, ap, ap₂, sym, ◌∙◌, subst, vec_len, Vec, Global, Bool, true, cond}
-use Rattle.std.specs.List.{zip, All, AllPairs, AllZip}
-use Rattle.std.proofs.lemmas.List.{map-append, length-map}
+use Rattle.std.proofs.Common.{◌≡◌, ℕ, List, [], ◌∷◌, ◌++◌, length, map, arith, refl, ap, ap₂, sym, ◌∙◌, vec_len, Vec, Global, Bool, true, cond}
+use Rattle.std.specs.List.{zip, All, AllZip}
+use Rattle.std.proofs.lemmas.List.{length-map}
 use Rattle.std.proofs.lemmas.List.Elements.{All-push, same_from_all_zip}
 use Rattle.std.proofs.lemmas.List.Quantifiers.{all_pairs_push}
 use Rattle.std.proofs.lemmas.Slice.Zip.{firsts-zip, seconds-zip}

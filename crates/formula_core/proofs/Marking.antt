@@ -1,9 +1,9 @@
 -- Marks for the places that terms use.
-use Rattle.std.proofs.Common.{◌≡◌, ℕ, zero, suc, ◌+◌, ◌<◌, List, [], ◌∷◌, ◌++◌, length, get_or, take, replicate, ◌≤◌, arith, refl, sym, ap, ◌∙◌, subst, cond, Bool, true, false, not, ◌||◌, nat_eq, ◌⊎◌, inl, inr, append-nil}
+use Rattle.std.proofs.Common.{◌≡◌, ℕ, zero, suc, ◌+◌, ◌<◌, List, [], ◌∷◌, ◌++◌, length, get_or, take, replicate, ◌≤◌, arith, refl, sym, ap, ◌∙◌, cond, Bool, true, false, not, ◌||◌, nat_eq, append-nil}
 use Rattle.std.proofs.Math.IntN.{ℤ, pos}
-use Rattle.std.specs.List.{All, filter, range_with_len, list_any}
+use Rattle.std.specs.List.{All, filter, range_with_len}
 use Rattle.std.specs.Ordering.{int_eq}
-use Rattle.std.proofs.lemmas.Bool.{cases_Bool, false≢true, true_from_ne_false, false_from_ne_true}
+use Rattle.std.proofs.lemmas.Bool.{false_from_ne_true}
 use Rattle.std.proofs.lemmas.Bool.Decides.{Decides-int_eq}
 use Rattle.std.proofs.lemmas.List.Elements.{filter-append}
 use Rattle.lash_model.specs.Formulas.{Linear, IsLinear}

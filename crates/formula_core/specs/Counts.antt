@@ -1,6 +1,6 @@
 -- Counts over formulas, and the variables that occur in them.
-use Rattle.std.specs.Prelude.{ℕ, suc, ◌+◌, ◌-◌, ◌^◌, max, Bool, true, false, ◌&&◌, ◌||◌, not, pos, List, [], ◌∷◌, map}
-use Rattle.std.specs.List.{filter, range_with_len, list_all}
+use Rattle.std.specs.Prelude.{ℕ, ◌+◌, ◌-◌, ◌^◌, max, Bool, true, false, ◌&&◌, ◌||◌, not, pos, List}
+use Rattle.std.specs.List.{filter, range_with_len}
 use Rattle.std.specs.Ordering.{int_eq}
 use Rattle.lash_model.specs.Formulas.{Sort, Int, Real, Linear, Formula, Le, Eq, Not, And, Or, Exists}
 use Rattle.formula_core.specs.Terms.{coefficient_at}

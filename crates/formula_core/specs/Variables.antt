@@ -1,6 +1,6 @@
 -- Lists of variables: names with sorts, by place.
-use Rattle.std.specs.Prelude.{ℕ, ◌≡◌, List, [], ◌∷◌, map, All}
-use Rattle.std.specs.List.{AllPairs, zip}
+use Rattle.std.specs.Prelude.{ℕ, ◌≡◌, List, map, All}
+use Rattle.std.specs.List.{AllPairs}
 use Rattle.lash_model.specs.Formulas.{Sort, Int, Real}
 use Rattle.formula_core.specs.Names.{IsVariableName}
 use Rattle.formula_core.specs.declared.sort.Sort.{Sort as DeclaredSort}

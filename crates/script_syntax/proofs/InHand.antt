@@ -5,8 +5,8 @@ use denote.Enum.Bare.{sameb, same_true, same_false}
 use Rattle.script_tokens.specs.contracts.kind.Kind.{the_type}
 use Rattle.script_tokens.specs.declared.kind.Kind.{Kind}
 use Rattle.script_grammar.proofs.Spellings.{same_kinds, kind_itself}
-use Rattle.script_syntax.specs.Reading.{token_at}
-use Rattle.parser_laws.specs.Parsing.{Pair, starts_with, seen_in}
+use Rattle.script_syntax.specs.Reading.{token_at, view_at}
+use Rattle.parser_laws.specs.Parsing.{Pair, starts_with, seen, seen_in}
 use Rattle.parser_laws.specs.Placed.{placed_view, with_place}
 use Rattle.parser_laws.proofs.Parts.{not_none, same_some}
 use Rattle.script_tokens.specs.Tokens.{Token, Sign, PlacedToken}
@@ -64,3 +64,12 @@ sign_in_hand k (t ∷ ts) e = by (place_view k t) refl e
     by : (o : Option ℕ) → place_view k t ≡ o → seen_in o ≡ true → Held (place_view k) (t ∷ ts)
     by None f g = absurd (false≢true g)
     by (Some p) f g = record { token = t; value = p; front = refl; viewed = f }
+
+-- what a view sees of the token in hand, or that it sees nothing
+pub view_held : {A : Type 0} (view : Token → Option A) (now : List PlacedToken) (a : A) → view_at view now ≡ Some a → (h : Held (placed_view view) now) × (h.value.left ≡ a)
+view_held view [] a e = absurd (not_none a e)
+view_held view (t ∷ ts) a e = (record { token = t; value = record { left = a; right = t.place }; front = refl; viewed = ap (with_place t.place) e }, refl)
+
+pub none_seen : {A : Type 0} (view : Token → Option A) (now : List PlacedToken) → view_at view now ≡ None → starts_with (seen (placed_view view)) now ≡ false
+none_seen view [] e = refl
+none_seen view (t ∷ ts) e = ap (λ o. seen_in (with_place t.place o)) e

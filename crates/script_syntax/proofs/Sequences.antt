@@ -3,7 +3,7 @@ use Rattle.std.proofs.Common.{◌≡◌, ◌≢◌, ℕ, ◌+◌, ◌-◌, ◌�
 use Rattle.parser_laws.specs.Parsing.{Halt, Res, done, halt, Either, first, other, Pair, pick, starts_with, choice, res_map, shift, pair_with, then_second}
 use Rattle.parser_laws.proofs.Good.{not_halt, not_done, same_value, same_rest, same_cause, same_place}
 use Rattle.script_tokens.specs.Tokens.{PlacedToken}
-use Rattle.script_syntax.specs.Reading.{Agrees, cause}
+use Rattle.script_syntax.specs.Reading.{Agrees, IsMade, cause}
 use Rattle.script_syntax.specs.declared.cursor.Stop.{Stop}
 use Rattle.script_syntax.specs.declared.cursor.Stop.TheVariants.{Memory}
 
@@ -61,3 +61,8 @@ seq_err {T = T} keep join n q r d w h after e l m f = seq_read keep join n q r d
   where
     sum_of : (a b c : ℕ) → b ≤ a → c ≤ b → (a - b) + (b - c) ≡ a - c
     sum_of a b c l m = omega (arith, l, m)
+
+-- a tree is made of what was read, unless memory is wanting
+pub made : {A B : Type 0} (shape : B → A) (r : Res PlacedToken A) (a : A) (result : Result B Stop) (before after : List PlacedToken) → IsMade shape a result → r ≡ done a after → Agrees shape r result before after
+made shape r a (Ok b) before after m e = e ∙ ap (λ a. done a after) (sym m)
+made shape r a (Err x) before after m e = λ n. absurd (n m)

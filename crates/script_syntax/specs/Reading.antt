@@ -1,7 +1,7 @@
 -- What an answer of a reader has to do with the parser of the grammar.
 use Rattle.std.specs.Prelude.{◌≡◌, ◌≢◌, ◌-◌, ℕ, Bool, List, [], ◌∷◌, length, Option, None, Some, Result, Ok, Err}
 use Rattle.parser_laws.specs.Parsing.{Halt, Syntax, Nesting, Res, done, halt, res_map, many}
-use Rattle.script_tokens.specs.Tokens.{PlacedToken}
+use Rattle.script_tokens.specs.Tokens.{Token, PlacedToken}
 use Rattle.script_tokens.specs.Shape.{placed_of}
 use Rattle.script_tokens.specs.declared.token.Placed.{Placed as DeclaredPlaced}
 use Rattle.script_syntax.specs.declared.cursor.Stop.{Stop}
@@ -39,3 +39,13 @@ rest_of starts p add n s ts = res_map (folded add s) (many starts p n ts)
 -- of a keyword or sign nothing is kept
 abbrev pub forgotten : ℕ → Unit {0}
 forgotten place = tt
+
+-- what a view sees of the token in hand
+abbrev pub view_at : {A : Type 0} → (Token → Option A) → List PlacedToken → Option A
+view_at view [] = None
+view_at view (t ∷ ts) = view t.token
+
+-- a tree that is made, unless memory is wanting
+abbrev pub IsMade : {A B : Type 0} → (B → A) → A → Result B Stop → Type 0
+IsMade shape a (Ok b) = shape b ≡ a
+IsMade shape a (Err e) = e ≡ Memory

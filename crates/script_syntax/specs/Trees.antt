@@ -5,8 +5,10 @@ use Rattle.script_tokens.specs.Tokens.{PlacedToken}
 use Rattle.lash_model.specs.Formulas.{Sort}
 use Rattle.formula_core.specs.Variables.{sort_of}
 use Rattle.script_tokens.specs.declared.kind.Kind.TheVariants as kind
-use Rattle.script_grammar.specs.Views.{Adding, Plus, Minus, adding, adding_view, is_adding, Relation, AtMost, Below, AtLeast, Above, Equal, Unequal, Quantifier, Exists, Forall, relation_view, sort_view, is, sign}
+use Rattle.script_grammar.specs.Views.{Adding, Plus, Minus, adding, adding_view, is_adding, Relation, AtMost, Below, AtLeast, Above, Equal, Unequal, Quantifier, Exists, Forall, relation, is, sign}
 use Rattle.script_grammar.specs.Terms.{scaled, part, tail, term, terms, arguments, called, compared, named, unnamed, atom, declaration, declarations}
+use Rattle.script_grammar.specs.Formulas.{Form, Quant, Plain, Iff, OneImp, TwoImps, Imp, OneOr, TwoOrs, Or as GrammarOr, Ands, MoreAnds, NoAnd, OrAnd, And as GrammarAnd, Units, MoreUnits, NoUnit, AndUnit, Unary, Not as GrammarNot, Paren, Simple, Levels, unary_lang, and_lang}
+use Rattle.script_grammar.specs.Statements.{header}
 use Rattle.script_syntax.specs.Reading.{folded, rest_of}
 use Rattle.script_syntax.specs.declared.tree.NameAt.{NameAt}
 use Rattle.script_syntax.specs.declared.tree.Part.{Part}
@@ -135,9 +137,17 @@ pub data TreeShape : Type 0 where
   Equivalent : TreeShape → TreeShape → TreeShape
   Quantified : Quantifier → List DeclarationShape → TreeShape → TreeShape
 
+-- what a table's token holds besides its place
+abbrev pub without_place : {A : Type 0} → Pair A ℕ → A
+without_place x = x.left
+
+-- a comparison whose left side is given
+abbrev pub related_shape : List SignedShape → (both relation term).Tree → TreeShape
+related_shape s x = Compare s x.left.left (term_shape x.right)
+
 -- a comparison whose first part is given
 abbrev pub compared_shape : SignedShape → compared.Tree → TreeShape
-compared_shape s x = Compare (folded add_part (s ∷ []) x.left) x.right.left.left (term_shape x.right.right)
+compared_shape s x = related_shape (folded add_part (s ∷ []) x.left) x.right
 
 abbrev pub named_shape : Named → Either called.Tree compared.Tree → TreeShape
 named_shape name (first x) = Call name (called_shape x)
@@ -147,10 +157,78 @@ abbrev pub lead_shape : Either (Pair ℕ part.Tree) scaled.Tree → SignedShape
 lead_shape (first x) = record { minus = true; part = part_shape x.right }
 lead_shape (other x) = record { minus = false; part = scaled_part x }
 
+-- a call or a comparison
+abbrev pub claim_shape : Either named.Tree unnamed.Tree → TreeShape
+claim_shape (first x) = named_shape x.left x.right
+claim_shape (other x) = compared_shape (lead_shape x.left) x.right
+
 abbrev pub atom_shape : atom.Tree → TreeShape
 atom_shape (first x) = Truth x.left
-atom_shape (other (first x)) = named_shape x.left x.right
-atom_shape (other (other x)) = compared_shape (lead_shape x.left) x.right
+atom_shape (other x) = claim_shape x
+
+-- the declarations of a header
+abbrev pub perhaps_declared : Either declarations.Tree Unit → List DeclarationShape
+perhaps_declared (first x) = declarations_shape x
+perhaps_declared (other x) = []
+
+abbrev pub closed_declared : Pair (Either declarations.Tree Unit) ℕ → List DeclarationShape
+closed_declared x = perhaps_declared x.left
+
+abbrev pub header_shape : header.Tree → List DeclarationShape
+header_shape x = closed_declared x.right
+
+-- formulas: lists nest to the left
+abbrev mutual
+  pub form_shape : Form → TreeShape
+  form_shape (Quant w d p f) = Quantified w.left (declarations_shape d) (form_shape f)
+  form_shape (Plain i) = iff_shape i
+
+  pub iff_shape : Iff → TreeShape
+  iff_shape (OneImp a) = imp_shape a
+  iff_shape (TwoImps a p b) = Equivalent (imp_shape a) (imp_shape b)
+
+  pub imp_shape : Imp → TreeShape
+  imp_shape (OneOr a) = or_shape a
+  imp_shape (TwoOrs a p b) = Implies (or_shape a) (or_shape b)
+
+  pub or_shape : GrammarOr → TreeShape
+  or_shape (Ands a l) = more_ands_shape l (and_shape a)
+
+  pub more_ands_shape : MoreAnds → TreeShape → TreeShape
+  more_ands_shape NoAnd s = s
+  more_ands_shape (OrAnd p a l) s = more_ands_shape l (Or s (and_shape a))
+
+  pub and_shape : GrammarAnd → TreeShape
+  and_shape (Units a l) = more_units_shape l (unary_shape a)
+
+  pub more_units_shape : MoreUnits → TreeShape → TreeShape
+  more_units_shape NoUnit s = s
+  more_units_shape (AndUnit p a l) s = more_units_shape l (And s (unary_shape a))
+
+  pub unary_shape : Unary → TreeShape
+  unary_shape (GrammarNot p a) = Not (unary_shape a)
+  unary_shape (Paren p f q) = form_shape f
+  unary_shape (Simple a) = atom_shape a
+
+-- a unit more behind `and`, and what is behind `or`
+abbrev pub join_and : TreeShape → ℕ → TreeShape → TreeShape
+join_and s p t = And s t
+
+abbrev pub join_or : TreeShape → ℕ → TreeShape → TreeShape
+join_or s p t = Or s t
+
+abbrev pub add_and : TreeShape → Pair ℕ Unary → TreeShape
+add_and s x = join_and s x.left (unary_shape x.right)
+
+abbrev pub add_or : TreeShape → Pair ℕ GrammarAnd → TreeShape
+add_or s x = join_or s x.left (and_shape x.right)
+
+-- what is still to be read of a list, behind what was
+abbrev pub units_read : Option Levels → ℕ → TreeShape → List PlacedToken → Res PlacedToken TreeShape
+units_read o n s ts = rest_of (is kind.And) (both (sign kind.And) (unary_lang o 0)).parse add_and n s ts
+
+abbrev pub ands_read : Option Levels → ℕ → TreeShape → List PlacedToken → Res PlacedToken TreeShape
+ands_read o n s ts = rest_of (is kind.Or) (both (sign kind.Or) (and_lang o 0)).parse add_or n s ts
 
 -- the same of the program's trees
 abbrev pub named_of : NameAt → Named
@@ -193,20 +271,14 @@ tree_of (DeclaredImplies' p f q g) = Implies (tree_of f) (tree_of g)
 tree_of (DeclaredEquivalent' p f q g) = Equivalent (tree_of f) (tree_of g)
 tree_of (DeclaredQuantified' w ds p f) = Quantified (quantifier_of w) (map declaration_of ds.items) (tree_of f)
 
--- the relation in hand
-abbrev pub relation_at : List PlacedToken → Option Relation
-relation_at [] = None
-relation_at (t ∷ ts) = relation_view t.token
-
 abbrev pub relation_shown : Option DeclaredRelation → Option Relation
 relation_shown None = None
 relation_shown (Some r) = Some (relation_of r)
 
--- the sort in hand
-abbrev pub sort_at : List PlacedToken → Option Sort
-sort_at [] = None
-sort_at (t ∷ ts) = sort_view t.token
-
 abbrev pub sort_shown : Option DeclaredSort → Option Sort
 sort_shown None = None
 sort_shown (Some s) = Some (sort_of s)
+
+abbrev pub quantifier_shown : Option DeclaredQuantifier → Option Quantifier
+quantifier_shown None = None
+quantifier_shown (Some w) = Some (quantifier_of w)

@@ -1,10 +1,8 @@
 -- At first nothing is marked, and then the places that the formula uses.
-use Rattle.std.proofs.Common.{◌≡◌, ℕ, List, Bool, false, length, drop, get_or, replicate, sym, ap, ◌∙◌, subst, arith}
+use Rattle.std.proofs.Common.{◌≡◌, ℕ, List, false, length, drop, get_or, sym, ap, ◌∙◌}
 use Rattle.std.specs.List.{filter, range_with_len}
-use Rattle.std.specs.Result.{IfOk}
 use Rattle.std.proofs.lemmas.Result.{IfOk-weaker}
 use Rattle.formula_core.specs.Counts.{uses, free_places}
-use Rattle.formula_core.specs.Marks.{AreMarked}
 use Rattle.formula_core.specs.Shape.{formula_of}
 use Rattle.formula_core.proofs.Marking.{marked_free, whole_buffer}
 use Rattle.formula_core.proofs.free.free_vars.Goals as goal

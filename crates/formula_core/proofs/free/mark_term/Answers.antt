@@ -1,5 +1,5 @@
 -- All terms were met, and none has the coefficient 0.
-use Rattle.std.proofs.Common.{◌≡◌, List, length, arith, subst, ap, sym, ◌∙◌, take, ℕ, Bool}
+use Rattle.std.proofs.Common.{List, length, arith, subst, ap, take, ℕ}
 use Rattle.std.proofs.Math.IntN.{ℤ}
 use Rattle.formula_core.specs.Marks.{AreMarked, appears}
 use Rattle.formula_core.proofs.Marking.{marked_term}

@@ -1,5 +1,5 @@
 -- The place is pushed exactly where it is marked.
-use Rattle.std.proofs.Common.{◌≡◌, ℕ, List, ap, ◌∙◌}
+use Rattle.std.proofs.Common.{ap, ◌∙◌}
 use Rattle.formula_core.proofs.Marking.{marked_there, marked_not}
 use Rattle.formula_core.proofs.free.marked.Goals as goal
 use Rattle.formula_core.proofs.free.marked.Goals.{then-marked+in-Ok, else-marked}

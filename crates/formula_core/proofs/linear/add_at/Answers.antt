@@ -1,9 +1,9 @@
 -- The edit at the place that was found is the addition.
-use Rattle.std.proofs.Common.{◌≡◌, ◌<◌, ◌≤◌, ◌^◌, ◌+ℤ◌, unsigned_abs, ℕ, ℤ, List, length, true, refl, sym, ◌∙◌, ap, subst, to_z, of_z, get_or, pos, rules, arith, OnOk}
+use Rattle.std.proofs.Common.{◌≡◌, ◌<◌, ℕ, ℤ, List, length, sym, ◌∙◌, ap, subst, get_or, pos}
 use Rattle.std.proofs.lemmas.Int.{to_z-of_z}
 use Rattle.std.proofs.lemmas.Bool.{iff_false}
 use mir.Syntax.{w128}
-use Rattle.formula_core.specs.Terms.{added, coefficient_at, with_sum, IsPlaceOf}
+use Rattle.formula_core.specs.Terms.{with_sum, IsPlaceOf}
 use Rattle.formula_core.proofs.Adding.{added_new, added_there, coefficient_there}
 use Rattle.formula_core.proofs.linear.add_at.Goals as goal
 

@@ -4,7 +4,7 @@ use Rattle.std.proofs.lemmas.Int.{to_z-of_z}
 use Rattle.std.proofs.lemmas.Result.{on_ok_weaker}
 use Rattle.std.specs.Prelude.{OnOk, OnErr}
 use mir.Syntax.{w128}
-use Rattle.lash_model.specs.Formulas.{Linear, IsLinear}
+use Rattle.lash_model.specs.Formulas.{IsLinear}
 use Rattle.lash_model.specs.Meaning.{total}
 use Rattle.formula_core.proofs.Adding.{linear_added, total_added}
 use Rattle.formula_core.specs.Terms.{added}

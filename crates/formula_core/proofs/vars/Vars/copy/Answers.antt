@@ -1,5 +1,5 @@
 -- The copied names hold the same bytes, and the sorts are the same.
-use Rattle.std.proofs.Common.{◌≡◌, ℕ, List, map, length, refl, ap, ap₂, sym, ◌∙◌, subst}
+use Rattle.std.proofs.Common.{ℕ, List, map, length, ap, ap₂, sym, ◌∙◌, subst}
 use Rattle.std.specs.List.{zip}
 use Rattle.std.proofs.lemmas.List.{length-map}
 use Rattle.formula_core.specs.Variables.{sort_of, AreVariables}

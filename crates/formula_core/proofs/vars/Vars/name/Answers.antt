@@ -1,7 +1,7 @@
 -- The names are the first parts of the pairs.
-use Rattle.std.proofs.Common.{◌≡◌, ◌<◌, ℕ, List, [], map, get_or, arith, refl, ap, sym, ◌∙◌, subst}
+use Rattle.std.proofs.Common.{ℕ, List, [], get_or, arith, ap, sym, ◌∙◌, subst}
 use Rattle.std.proofs.lemmas.List.{get_or-map}
-use Rattle.formula_core.specs.Variables.{names_of, AreVariables}
+use Rattle.formula_core.specs.Variables.{AreVariables}
 use Rattle.formula_core.proofs.Listing.{names_seen, length_seen}
 use Rattle.formula_core.proofs.vars.Vars.name.Goals as goal
 

@@ -1,5 +1,5 @@
 -- The sorts are the second parts of the pairs.
-use Rattle.std.proofs.Common.{◌≡◌, map, ap, sym, ◌∙◌}
+use Rattle.std.proofs.Common.{map, ap, sym, ◌∙◌}
 use Rattle.formula_core.specs.Variables.{sort_of}
 use Rattle.formula_core.proofs.Listing.{sorts_seen}
 use Rattle.formula_core.proofs.vars.Vars.sorts.Goals as goal
