@@ -54,6 +54,7 @@ part_digits (a ∷ p) (b ∷ q) x y hp hq sx sy e = let r = part_digits p q x y 
   where
     same_head : (a ∷ (p ++ x)) ≡ (b ∷ (q ++ y)) → a ≡ b
     same_head e = cc
+
     same_tail : (a ∷ (p ++ x)) ≡ (b ∷ (q ++ y)) → p ++ x ≡ q ++ y
     same_tail e = cc
 
@@ -64,7 +65,7 @@ record SameNumber (n m : ℕ) (x y : List ℕ) : Type 0 where
 
 read_decimal : (n m : ℕ) (x y : List ℕ) → n < 2 ^ 64 → m < 2 ^ 64 → Stops x → Stops y → decimal n ++ x ≡ decimal m ++ y → SameNumber n m x y
 read_decimal n m x y hn hm sx sy e = let r = part_digits (decimal n) (decimal m) x y (decimal_bytes n hn) (decimal_bytes m hm) sx sy e in
-  record { number = sym (decimal_is_IsNumeral n hn).1 ∙ ap (digits_value 10) r.front ∙ (decimal_is_IsNumeral m hm).1; back = r.back }
+    record { number = sym (decimal_is_IsNumeral n hn).1 ∙ ap (digits_value 10) r.front ∙ (decimal_is_IsNumeral m hm).1; back = r.back }
 
 read_number : (n m : ℕ) (x y : List ℕ) → n < 2 ^ 64 → m < 2 ^ 64 → Stops x → Stops y → number_text n ++ x ≡ number_text m ++ y → SameNumber n m x y
 read_number n m x y hn hm sx sy e = read_decimal n m x y hn hm sx sy (append_cancel_left (codes " ") (decimal n ++ x) (decimal m ++ y) e)
@@ -81,13 +82,13 @@ record SameNumbers (f g : ℕ → ℕ) (count : ℕ) (x y : List ℕ) : Type 0 w
 read_numbers : (f g : ℕ → ℕ) (count : ℕ) (x y : List ℕ) → ((i : ℕ) → i < count → f i < 2 ^ 64) → ((i : ℕ) → i < count → g i < 2 ^ 64) → Stops x → Stops y → texts_upto (λ i. number_text (f i)) count ++ x ≡ texts_upto (λ i. number_text (g i)) count ++ y → SameNumbers f g count x y
 read_numbers f g zero x y hf hg sx sy e = record { numbers = λ i h. absurd (omega (arith, h)); back = e }
 read_numbers f g (suc count) x y hf hg sx sy e =
-  let first = read_numbers f g count (number_text (f count) ++ x) (number_text (g count) ++ y) (λ i h. hf i (omega (arith, h))) (λ i h. hg i (omega (arith, h))) (stops_number (f count) x) (stops_number (g count) y)
+    let first = read_numbers f g count (number_text (f count) ++ x) (number_text (g count) ++ y) (λ i h. hf i (omega (arith, h))) (λ i h. hg i (omega (arith, h))) (stops_number (f count) x) (stops_number (g count) y)
     (sym (append_assoc (texts_upto (λ i. number_text (f i)) count) (number_text (f count)) x) ∙ e ∙ append_assoc (texts_upto (λ i. number_text (g i)) count) (number_text (g count)) y) in
-  let last = read_number (f count) (g count) x y (hf count (omega arith)) (hg count (omega arith)) sx sy first.back in
-  record {
-    numbers = λ i h. elim (cases_lt i count) [ inl before ↦ first.numbers i before | inr at_end ↦ subst (λ k. f k ≡ g k) (same i count h at_end) last.number ];
-    back = last.back;
-  }
+    let last = read_number (f count) (g count) x y (hf count (omega arith)) (hg count (omega arith)) sx sy first.back in
+    record {
+      numbers = λ i h. elim (cases_lt i count) [ inl before ↦ first.numbers i before | inr at_end ↦ subst (λ k. f k ≡ g k) (same i count h at_end) last.number ];
+      back = last.back;
+    }
   where
     same : (i n : ℕ) → i < suc n → n ≤ i → n ≡ i
     same i n h k = omega (arith, h, k)
@@ -128,16 +129,16 @@ diagram_out t d q = ap (λ (cs : List ℕ). if nat_eq (length cs) 0 then answer_
 read_line : (t u : Table) → IsDiagram t → IsDiagram u → letters t ≡ letters u → SmallRows t → SmallRows u → (q : ℕ) → q < ints t → q < ints u → (x y : List ℕ) → int_line t q ++ x ≡ int_line u q ++ y → SameLine t u q x y
 unfolding SmallRows Stops
 read_line t u dt du widths st su q qt qu x y e =
-  let tail_t : List ℕ = targets_text t.rows (letters t) q ++ (codes "\n" ++ x) in
-  let tail_u : List ℕ = targets_text u.rows (letters u) q ++ (codes "\n" ++ y) in
-  let behind : answer_text (nat_eq (slice_index t.outs q) 1) ++ tail_t ≡ answer_text (nat_eq (slice_index u.outs q) 1) ++ tail_u =
+    let tail_t : List ℕ = targets_text t.rows (letters t) q ++ (codes "\n" ++ x) in
+    let tail_u : List ℕ = targets_text u.rows (letters u) q ++ (codes "\n" ++ y) in
+    let behind : answer_text (nat_eq (slice_index t.outs q) 1) ++ tail_t ≡ answer_text (nat_eq (slice_index u.outs q) 1) ++ tail_u =
     ap (λ o. o ++ tail_t) (sym (diagram_out t dt q))
     ∙ append_cancel_left (decimal q) (out_text t (slice_index t.outs q) ++ tail_t) (out_text u (slice_index u.outs q) ++ tail_u) (sym (join_line (decimal q) (out_text t (slice_index t.outs q)) (targets_text t.rows (letters t) q) x) ∙ e ∙ join_line (decimal q) (out_text u (slice_index u.outs q)) (targets_text u.rows (letters u) q) y)
     ∙ ap (λ o. o ++ tail_u) (diagram_out u du q) in
-  let a = read_answer (nat_eq (slice_index t.outs q) 1) (nat_eq (slice_index u.outs q) 1) tail_t tail_u behind in
-  let r = read_numbers (λ l. slice_index t.rows (q * letters t + l)) (λ l. slice_index u.rows (q * letters u + l)) (letters t) (codes "\n" ++ x) (codes "\n" ++ y) (λ l h. st q l qt h) (λ l h. su q l qu (subst (λ w. l < w) widths h)) (omega arith) (omega arith)
+    let a = read_answer (nat_eq (slice_index t.outs q) 1) (nat_eq (slice_index u.outs q) 1) tail_t tail_u behind in
+    let r = read_numbers (λ l. slice_index t.rows (q * letters t + l)) (λ l. slice_index u.rows (q * letters u + l)) (letters t) (codes "\n" ++ x) (codes "\n" ++ y) (λ l h. st q l qt h) (λ l h. su q l qu (subst (λ w. l < w) widths h)) (omega arith) (omega arith)
     (a.back ∙ ap (λ w. texts_upto (λ l. number_text (slice_index u.rows (q * letters u + l))) w ++ (codes "\n" ++ y)) (sym widths)) in
-  record { out = a.answer; targets = r.numbers; back = append_cancel_left (codes "\n") x y r.back }
+    record { out = a.answer; targets = r.numbers; back = append_cancel_left (codes "\n") x y r.back }
 
 -- the lines of all states
 record SameLines (t u : Table) (count : ℕ) (x y : List ℕ) : Type 0 where
@@ -148,14 +149,14 @@ record SameLines (t u : Table) (count : ℕ) (x y : List ℕ) : Type 0 where
 read_lines : (t u : Table) → IsDiagram t → IsDiagram u → letters t ≡ letters u → SmallRows t → SmallRows u → (count : ℕ) → count ≤ ints t → count ≤ ints u → (x y : List ℕ) → texts_upto (int_line t) count ++ x ≡ texts_upto (int_line u) count ++ y → SameLines t u count x y
 read_lines t u dt du widths st su zero ht hu x y e = record { outs = λ q h. absurd (omega (arith, h)); targets = λ q l h k. absurd (omega (arith, h)); back = e }
 read_lines t u dt du widths st su (suc count) ht hu x y e =
-  let first = read_lines t u dt du widths st su count (omega (arith, ht)) (omega (arith, hu)) (int_line t count ++ x) (int_line u count ++ y)
+    let first = read_lines t u dt du widths st su count (omega (arith, ht)) (omega (arith, hu)) (int_line t count ++ x) (int_line u count ++ y)
     (sym (append_assoc (texts_upto (int_line t) count) (int_line t count) x) ∙ e ∙ append_assoc (texts_upto (int_line u) count) (int_line u count) y) in
-  let last = read_line t u dt du widths st su count ht hu x y first.back in
-  record {
-    outs = λ q h. elim (cases_lt q count) [ inl before ↦ first.outs q before | inr at_end ↦ subst (λ k. nat_eq (slice_index t.outs k) 1 ≡ nat_eq (slice_index u.outs k) 1) (same q count h at_end) last.out ];
-    targets = λ q l h k. elim (cases_lt q count) [ inl before ↦ first.targets q l before k | inr at_end ↦ subst (λ n. slice_index t.rows (n * letters t + l) ≡ slice_index u.rows (n * letters u + l)) (same q count h at_end) (last.targets l k) ];
-    back = last.back;
-  }
+    let last = read_line t u dt du widths st su count ht hu x y first.back in
+    record {
+      outs = λ q h. elim (cases_lt q count) [ inl before ↦ first.outs q before | inr at_end ↦ subst (λ k. nat_eq (slice_index t.outs k) 1 ≡ nat_eq (slice_index u.outs k) 1) (same q count h at_end) last.out ];
+      targets = λ q l h k. elim (cases_lt q count) [ inl before ↦ first.targets q l before k | inr at_end ↦ subst (λ n. slice_index t.rows (n * letters t + l) ≡ slice_index u.rows (n * letters u + l)) (same q count h at_end) (last.targets l k) ];
+      back = last.back;
+    }
   where
     same : (i n : ℕ) → i < suc n → n ≤ i → n ≡ i
     same i n h k = omega (arith, h, k)
@@ -185,12 +186,12 @@ SmallRoots t = (sign : ℕ) → sign < 2 ^ t.tracks → slice_index t.roots sign
 read_counts : (t u : Table) → IsTable t → IsTable u → IsDiagram t → IsDiagram u → t.tracks ≡ u.tracks → SmallRoots t → SmallRoots u → (x y : List ℕ) → counts t ++ x ≡ counts u ++ y → SameCounts t u x y
 unfolding SmallRoots Stops
 read_counts t u ht hu dt du tracks rt ru x y e =
-  let behind : number_text (ints t) ++ (codes "\nroots" ++ (roots_text t ++ (codes "\n" ++ x))) ≡ number_text (ints u) ++ (codes "\nroots" ++ (roots_text u ++ (codes "\n" ++ y))) =
+    let behind : number_text (ints t) ++ (codes "\nroots" ++ (roots_text t ++ (codes "\n" ++ x))) ≡ number_text (ints u) ++ (codes "\nroots" ++ (roots_text u ++ (codes "\n" ++ y))) =
     append_cancel_left (codes "int") (number_text (ints t) ++ (codes "\nroots" ++ (roots_text t ++ (codes "\n" ++ x)))) (number_text (ints u) ++ (codes "\nroots" ++ (roots_text u ++ (codes "\n" ++ y)))) (sym (diagram_counts t dt x) ∙ e ∙ diagram_counts u du y) in
-  let n = read_number (ints t) (ints u) (codes "\nroots" ++ (roots_text t ++ (codes "\n" ++ x))) (codes "\nroots" ++ (roots_text u ++ (codes "\n" ++ y))) (omega (arith, few_states t ht)) (omega (arith, few_states u hu)) (omega arith) (omega arith) behind in
-  let r = read_numbers (slice_index t.roots) (slice_index u.roots) (2 ^ t.tracks) (codes "\n" ++ x) (codes "\n" ++ y) rt (λ sign h. ru sign (subst (λ k. sign < 2 ^ k) tracks h)) (omega arith) (omega arith)
+    let n = read_number (ints t) (ints u) (codes "\nroots" ++ (roots_text t ++ (codes "\n" ++ x))) (codes "\nroots" ++ (roots_text u ++ (codes "\n" ++ y))) (omega (arith, few_states t ht)) (omega (arith, few_states u hu)) (omega arith) (omega arith) behind in
+    let r = read_numbers (slice_index t.roots) (slice_index u.roots) (2 ^ t.tracks) (codes "\n" ++ x) (codes "\n" ++ y) rt (λ sign h. ru sign (subst (λ k. sign < 2 ^ k) tracks h)) (omega arith) (omega arith)
     (append_cancel_left (codes "\nroots") (roots_text t ++ (codes "\n" ++ x)) (roots_text u ++ (codes "\n" ++ y)) n.back ∙ ap (λ k. texts_upto (λ sign. number_text (slice_index u.roots sign)) (2 ^ k) ++ (codes "\n" ++ y)) (sym tracks)) in
-  record { states = n.number; roots = r.numbers; back = append_cancel_left (codes "\n") x y r.back }
+    record { states = n.number; roots = r.numbers; back = append_cancel_left (codes "\n") x y r.back }
 
 small_rows : (t : Table) → IsTable t → SmallRows t
 unfolding SmallRows
@@ -204,13 +205,13 @@ small_roots t h sign lt = omega (arith, few_states t h, read_below t.roots (leng
 pub texts_tell : (vs : List (List ℕ × Sort)) (t u : Table) → IsTable t → IsTable u → IsDiagram t → IsDiagram u → t.base ≡ u.base → t.tracks ≡ u.tracks → text_of vs t ≡ text_of vs u → t ≡ u
 unfolding text_of
 texts_tell vs t u ht hu dt du base tracks e =
-  let rest : Table → List ℕ = λ v. texts_upto (int_line v) (ints v) ++ (texts_upto (frac_line v) (fracs v) ++ codes "end\n") in
-  let widths : letters t ≡ letters u = ap (λ b. b ^ t.tracks) base ∙ ap (λ n. u.base ^ n) tracks in
-  let behind : counts t ++ rest t ≡ counts u ++ rest u = append_cancel_left (heading t.base vs) (counts t ++ rest t) (counts u ++ rest u) (e ∙ ap (λ b. heading b vs ++ (counts u ++ rest u)) (sym base)) in
-  let c = read_counts t u ht hu dt du tracks (small_roots t ht) (small_roots u hu) (rest t) (rest u) behind in
-  let l = read_lines t u dt du widths (small_rows t ht) (small_rows u hu) (ints t) (omega arith) (omega (arith, c.states)) (texts_upto (frac_line t) (fracs t) ++ codes "end\n") (texts_upto (frac_line u) (fracs u) ++ codes "end\n")
+    let rest : Table → List ℕ = λ v. texts_upto (int_line v) (ints v) ++ (texts_upto (frac_line v) (fracs v) ++ codes "end\n") in
+    let widths : letters t ≡ letters u = ap (λ b. b ^ t.tracks) base ∙ ap (λ n. u.base ^ n) tracks in
+    let behind : counts t ++ rest t ≡ counts u ++ rest u = append_cancel_left (heading t.base vs) (counts t ++ rest t) (counts u ++ rest u) (e ∙ ap (λ b. heading b vs ++ (counts u ++ rest u)) (sym base)) in
+    let c = read_counts t u ht hu dt du tracks (small_roots t ht) (small_roots u hu) (rest t) (rest u) behind in
+    let l = read_lines t u dt du widths (small_rows t ht) (small_rows u hu) (ints t) (omega arith) (omega (arith, c.states)) (texts_upto (frac_line t) (fracs t) ++ codes "end\n") (texts_upto (frac_line u) (fracs u) ++ codes "end\n")
     (c.back ∙ ap (λ n. texts_upto (int_line u) n ++ (texts_upto (frac_line u) (fracs u) ++ codes "end\n")) (sym c.states)) in
-  same_table t u base tracks
+    same_table t u base tracks
     (same_lists t.roots u.roots (ht.roots_count ∙ ap (λ n. 2 ^ n) tracks ∙ sym hu.roots_count) (λ i lt. c.roots i (subst (λ n. i < n) ht.roots_count lt)))
     (same_rows t.rows u.rows (length t.outs) (letters t) ht.rows_count (hu.rows_count ∙ ap (λ n. n * letters u) (sym c.states) ∙ ap (λ w. length t.outs * w) (sym widths)) (λ q k q_in k_in. l.targets q k q_in k_in ∙ ap (λ w. slice_index u.rows (q * w + k)) (sym widths)))
     (same_lists t.outs u.outs c.states (λ q lt. same_truth (slice_index t.outs q) (slice_index u.outs q) (out_below t ht dt q lt) (out_below u hu du q (subst (λ n. q < n) c.states lt)) (l.outs q lt)))

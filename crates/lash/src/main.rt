@@ -3,9 +3,8 @@
 
 use lash_command::{Status, report, run};
 use lash_io::{StdSink, StdSource};
-use std::env;
-use std::io;
 use std::process::ExitCode;
+use std::{env, io};
 
 /// The words after the program's name, or how the program ends without them: a word is no text, or there was no memory.
 fn words(rt: &HostRuntime) -> Result<Vec<String>, Status> {

@@ -4,3 +4,4 @@ pub mod Summing
 pub mod Sorting
 pub mod FillingSteps
 pub mod Finishing
+pub mod Excluding
