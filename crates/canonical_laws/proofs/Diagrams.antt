@@ -12,7 +12,7 @@ use Rattle.canonical_laws.specs.Twins.{Part, IsClosed, IsMinimal, IsOneToOne, Ar
 use Rattle.canonical_laws.proofs.Uniqueness.{same_states, same_starts, same_targets, related_outs, go_below}
 
 -- lists of one length with equal entries are equal
-same_lists : (xs ys : List ℕ) → length xs ≡ length ys → ((i : ℕ) → i < length xs → slice_index xs i ≡ slice_index ys i) → xs ≡ ys
+pub same_lists : (xs ys : List ℕ) → length xs ≡ length ys → ((i : ℕ) → i < length xs → slice_index xs i ≡ slice_index ys i) → xs ≡ ys
 same_lists [] [] e h = refl
 same_lists [] (y ∷ ys) e h = absurd (omega (arith, e))
 same_lists (x ∷ xs) [] e h = absurd (omega (arith, e))
@@ -21,10 +21,10 @@ same_lists (x ∷ xs) (y ∷ ys) e h = ap (λ z. z ∷ xs) (h 0 (omega arith)) �
 part : Table → Part
 part t = record { starts = t.roots; rows = t.rows; outs = t.outs }
 
-read_below : (xs : List ℕ) (bound i : ℕ) → All (λ q. q < bound) xs → i < length xs → slice_index xs i < bound
+pub read_below : (xs : List ℕ) (bound i : ℕ) → All (λ q. q < bound) xs → i < length xs → slice_index xs i < bound
 read_below xs bound i h lt = All-get_or (λ q. q < bound) xs i 0 lt h
 
-place_within : (c m w l : ℕ) → c < m → l < w → c * w + l < m * w
+pub place_within : (c m w l : ℕ) → c < m → l < w → c * w + l < m * w
 place_within c m w l h k = grind arith
 
 closed_part : (t : Table) → IsTable t → IsClosed (letters t) (part t)
@@ -76,7 +76,7 @@ related_parts t u ct cu eb et same = record {
     other_start p lt = subst (λ n. p.start < n) (ct.table.roots_count ∙ ap (λ n. 2 ^ n) et ∙ sym cu.table.roots_count) lt
 
 -- flat rows with equal entries by state and letter are equal
-same_rows : (xs ys : List ℕ) (states width : ℕ) → length xs ≡ states * width → length ys ≡ states * width → ((q l : ℕ) → q < states → l < width → slice_index xs (q * width + l) ≡ slice_index ys (q * width + l)) → xs ≡ ys
+pub same_rows : (xs ys : List ℕ) (states width : ℕ) → length xs ≡ states * width → length ys ≡ states * width → ((q l : ℕ) → q < states → l < width → slice_index xs (q * width + l) ≡ slice_index ys (q * width + l)) → xs ≡ ys
 same_rows xs ys states zero ex ey h = same_lists xs ys (ex ∙ sym ey) (λ i lt. absurd (omega (arith, lt, ex, none states)))
   where
     none : (n : ℕ) → n * zero ≡ zero
@@ -90,13 +90,13 @@ empty_list : (xs : List ℕ) → length xs ≡ 0 → xs ≡ []
 empty_list [] e = refl
 empty_list (x ∷ xs) e = absurd (omega (arith, e))
 
-no_frac_rows : (t : Table) → IsTable t → IsDiagram t → t.frac_rows ≡ []
+pub no_frac_rows : (t : Table) → IsTable t → IsDiagram t → t.frac_rows ≡ []
 no_frac_rows t h d = empty_list t.frac_rows (h.frac_rows_count ∙ ap (λ (cs : List ℕ). length cs * letters t) d ∙ none (letters t))
   where
     none : (n : ℕ) → 0 * n ≡ 0
     none n = omega arith
 
-same_table : (t u : Table) → t.base ≡ u.base → t.tracks ≡ u.tracks → t.roots ≡ u.roots → t.rows ≡ u.rows → t.outs ≡ u.outs → t.frac_rows ≡ u.frac_rows → t.colours ≡ u.colours → t ≡ u
+pub same_table : (t u : Table) → t.base ≡ u.base → t.tracks ≡ u.tracks → t.roots ≡ u.roots → t.rows ≡ u.rows → t.outs ≡ u.outs → t.frac_rows ≡ u.frac_rows → t.colours ≡ u.colours → t ≡ u
 same_table t u a b c d e f g =
     ap (λ x. of x t.tracks t.roots t.rows t.outs t.frac_rows t.colours) a
     ∙ ap (λ x. of u.base x t.roots t.rows t.outs t.frac_rows t.colours) b
