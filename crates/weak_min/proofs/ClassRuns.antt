@@ -12,6 +12,7 @@ use Rattle.lash_model.specs.Tables.{letters, ints}
 use Rattle.canonical_laws.specs.Behaviour.{Behaves}
 use Rattle.canonical_laws.specs.Canonical.{walked}
 use Rattle.canonical_laws.proofs.Diagrams.{read_below, place_within}
+use Rattle.weak_min.proofs.FillingSteps.{few_signs}
 use Rattle.weak_min.specs.Quotients.{Classed, IsClassed, class_key, quotient}
 
 -- states that behave alike do so after a letter
@@ -69,3 +70,7 @@ pub never_heavy : (c : Classed) → IsClassed c → IsHeavy (quotient c) 1677721
 never_heavy c h = no_heavy_on_states (quotient c) (ints c.table) 16777216 (λ k. refl)
     (λ k r. (slice_index c.classes (walked c.table.roots c.table.rows (letters c.table) r.path), class_in c h (walked c.table.roots c.table.rows (letters c.table) r.path) (walked_in c h r.path r.valid), sym r.leads ∙ after_class c h r.path r.valid))
     (more_cells (ints c.table) (length c.table.colours) (letters c.table) 16777216 h.table.shape.few_cells)
+
+-- there are few roots
+pub roots_few : (c : Classed) → IsClassed c → length c.table.roots ≤ 4096
+roots_few c h = omega (arith, h.table.roots_count, few_signs c.table.base c.table.tracks h.table.shape.base_low h.table.shape.few_letters)

@@ -22,5 +22,5 @@ accept_same : (t u : Table) → t ≡ u → AcceptSameWords t u
 accept_same t u e = subst (λ v. AcceptSameWords t v) e (λ sign w lt a. refl)
 
 -- equal exactly where they accept the same words
-pub equal_by_words : (t u : Table) (yes : Type 0) → IsCanonical t → IsCanonical u → yes ↔ (t ≡ u) → t.base ≡ u.base → t.tracks ≡ u.tracks → yes ↔ AcceptSameWords t u
-equal_by_words t u yes h k i b n = (λ y. accept_same t u (i.0 y), λ w. i.1 (diagrams_unique t u h k b n w))
+pub equal_by_words : (t u : Table) (holds : Type 0) → IsCanonical t → IsCanonical u → holds ↔ (t ≡ u) → t.base ≡ u.base → t.tracks ≡ u.tracks → holds ↔ AcceptSameWords t u
+equal_by_words t u holds h k i b n = (λ y. accept_same t u (i.0 y), λ w. i.1 (diagrams_unique t u h k b n w))

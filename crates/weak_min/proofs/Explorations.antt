@@ -4,6 +4,7 @@ use Rattle.std.specs.Prelude.{slice_index, slice_get, nat_eq, All}
 use Rattle.std.specs.declared.option.Option.TheVariants.{Some}
 use Rattle.std.specs.List.{slice_index_or, AllByRecursion}
 use Rattle.std.proofs.lemmas.Bool.{cases_order}
+use Rattle.std.proofs.lemmas.Nat.{pow_pos}
 use Rattle.std.proofs.lemmas.List.{length-map}
 use Rattle.std.proofs.lemmas.List.Elements.{recursion_from_All, All-from_recursion}
 use Rattle.std.proofs.lemmas.Option.{slice_get_within, get_or_from_slice_get, slice_get-get_or}
@@ -128,15 +129,12 @@ weigh_classes : (m : Steps) (ks : List (List ℕ)) → ((k : List ℕ) → m.wei
 weigh_classes m [] none = omega arith
 weigh_classes m (k ∷ ks) none = omega (arith, none k, weigh_classes m ks none)
 
-some_root : (n : ℕ) → 0 < 2 ^ n
-some_root n = grind arith
-
 pub shape_of : (c : Classed) (k : KeyTable) → IsClassed c → IsExplored (quotient c) 16777216 k → IsShape c.table.base c.table.tracks (length k.keys) 0
 shape_of c k h e = record {
   base_low = h.table.shape.base_low;
   base_high = h.table.shape.base_high;
   few_letters = h.table.shape.few_letters;
-  some_state = omega (arith, slice_get_within k.keys (slice_index k.starts 0) (list_at (quotient c).starts 0) (e.begins 0 (subst (λ n. 0 < n) (sym (length-map c.table.roots (class_key c.classes) ∙ h.table.roots_count)) (some_root c.table.tracks))));
+  some_state = omega (arith, slice_get_within k.keys (slice_index k.starts 0) (list_at (quotient c).starts 0) (e.begins 0 (subst (λ n. 0 < n) (sym (length-map c.table.roots (class_key c.classes) ∙ h.table.roots_count)) (pow_pos c.table.tracks))));
   few_cells = omega (arith, e.within, e.weighs ∙ weigh_classes (quotient c) k.keys (λ x. refl));
 }
 

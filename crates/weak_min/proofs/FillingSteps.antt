@@ -4,16 +4,21 @@ use Rattle.std.specs.Prelude.{slice_set, slice_index}
 use Rattle.std.proofs.Math.Nat.{pow-le-pow_left}
 use Rattle.std.proofs.lemmas.Bool.{cases_lt}
 use Rattle.std.proofs.lemmas.List.{get_or-set_same, get_or-set_other}
+use Rattle.std.proofs.lemmas.List.{length-replicate}
 use mathlib.Core.Logic.{inl, inr}
 use Rattle.graph_laws.specs.Exploring.{KeyTable, list_at}
 use Rattle.lash_model.specs.Tables.{Table, letters, IsTable}
-use Rattle.step_tables.specs.Kept.{Kept}
+use Rattle.step_tables.specs.Kept.{Kept, plain, zeros}
 use Rattle.canonical_laws.proofs.Diagrams.{place_within}
 use Rattle.weak_min.specs.Filling.{SameUpTo, AreOuts, IsBlankFor, IsFilling}
 
 -- there are no more sign vectors than letters
 pub few_signs : (base n : ℕ) → 2 ≤ base → base ^ n ≤ 4096 → 2 ^ n ≤ 4096
 few_signs base n h k = omega (arith, k, pow-le-pow_left h n)
+
+-- there are few roots
+pub few_roots : (source : Table) (k : KeyTable) (u : Kept) → IsBlankFor source.base source.tracks k u → 2 ^ source.tracks ≤ 4096
+few_roots source k u s = few_signs source.base source.tracks (subst (λ b. 2 ≤ b) s.base_is s.table.shape.base_low) (subst (λ n. source.base ^ n ≤ 4096) s.tracks_are (subst (λ b. b ^ u.table.tracks ≤ 4096) s.base_is s.table.shape.few_letters))
 
 -- one entry more
 one_more : (xs : List ℕ) (f : ℕ → ℕ) (n to : ℕ) → ((p : ℕ) → p < n → slice_index xs p ≡ f p) → n < length xs → to ≡ f n → (p : ℕ) → p < n + 1 → slice_index (slice_set xs n to) p ≡ f p
@@ -65,4 +70,24 @@ filling_out source k roots rows n to u f table same lt is = record {
   roots_filled = f.roots_filled;
   rows_filled = f.rows_filled;
   outs_filled = record { each = one_more u.table.outs (λ i. slice_index source.outs (slice_index (list_at k.keys i) 0)) n to f.outs_filled.each (subst (λ m. n < m) (sym f.shape.states) lt) is };
+}
+
+-- of a blank table nothing is filled
+pub blank_filling : (source : Table) (k : KeyTable) (base tracks states : ℕ) (u : Kept) → u ≡ plain (zeros base tracks states 0) → base ≡ source.base → tracks ≡ source.tracks → states ≡ length k.keys → IsTable u.table → length k.starts ≡ 2 ^ source.tracks → k.width ≡ letters source → IsFilling source k 0 0 0 u
+blank_filling source k base tracks states u e b n s table starts width = record {
+  shape = record {
+    base_is = ap (λ (v : Kept). v.table.base) e ∙ b;
+    tracks_are = ap (λ (v : Kept). v.table.tracks) e ∙ n;
+    diagram = ap (λ (v : Kept). v.table.colours) e;
+    states = ap (λ (v : Kept). length v.table.outs) e ∙ length-replicate states 0 ∙ s;
+    table = table;
+    starts = starts;
+    width = width;
+    wide_roots = ap (λ (v : Kept). v.bounds.roots) e;
+    wide_rows = ap (λ (v : Kept). v.bounds.rows) e;
+    wide_outs = ap (λ (v : Kept). v.bounds.outs) e;
+  };
+  roots_filled = record { each = λ p lt. absurd (omega (arith, lt)) };
+  rows_filled = record { each = λ p lt. absurd (omega (arith, lt)) };
+  outs_filled = record { each = λ p lt. absurd (omega (arith, lt)) };
 }

@@ -1,8 +1,8 @@
 //! Whether two canonical tables are equal, entry by entry. Costs one look at each entry, and takes no memory.
 
 ghost use Rattle.std.specs.Prelude.{◌≡◌, ◌↔◌, ◌+◌, ◌*◌, ◌^◌, ◌<◌, ℕ, IsTrue, slice_index};
-ghost use Rattle.lash_model.specs.Tables.{letters, ints};
-ghost use Rattle.canonical_laws.specs.Canonical.{AcceptSameWords};
+ghost use Rattle.lash_model.specs.Tables.{letters, ints, IsTable};
+ghost use Rattle.canonical_laws.specs.Canonical.{IsCanonical, AcceptSameWords};
 
 use crate::Canon;
 use step_tables::{Plain, Table};
@@ -16,7 +16,9 @@ fn same_shape(left: &Table<Plain>, right: &Table<Plain>) -> bool
 
 /// Whether all roots are equal.
 fn same_roots(left: &Table<Plain>, right: &Table<Plain>) -> bool
-    requires { left.now.table.tracks ≡ right.now.table.tracks }
+    requires left { IsTable left.now.table }
+    requires right { IsTable right.now.table }
+    requires tracks { left.now.table.tracks ≡ right.now.table.tracks }
     ensures { IsTrue result ↔ (left.now.table.roots ≡ right.now.table.roots) }
 {
     for sign in 0..2u32.pow(left.tracks()) {
@@ -44,6 +46,8 @@ fn same_row(left: &Table<Plain>, right: &Table<Plain>, state: u32) -> bool
 
 /// Whether all targets are equal.
 fn same_rows(left: &Table<Plain>, right: &Table<Plain>) -> bool
+    requires left { IsTable left.now.table }
+    requires right { IsTable right.now.table }
     requires letters { letters left.now.table ≡ letters right.now.table }
     requires states { ints left.now.table ≡ ints right.now.table }
     ensures { IsTrue result ↔ (left.now.table.rows ≡ right.now.table.rows) }
@@ -69,15 +73,23 @@ fn same_outs(left: &Table<Plain>, right: &Table<Plain>) -> bool
     true
 }
 
-/// Whether two canonical tables are equal. Neither has fraction states. Where the bases and numbers of tracks are equal, so are the
-/// tables exactly where they accept the same words.
-pub fn same(left: &Canon, right: &Canon) -> bool
-    ensures tables { IsTrue result ↔ (left.now.table ≡ right.now.table) }
-    ensures words { left.now.table.base ≡ right.now.table.base → left.now.table.tracks ≡ right.now.table.tracks → (IsTrue result ↔ AcceptSameWords left.now.table right.now.table) }
+/// Whether two diagrams that are canonical are equal. Neither has fraction states.
+fn same_tables(left: &Table<Plain>, right: &Table<Plain>) -> bool
+    requires left { IsCanonical left.now.table }
+    requires right { IsCanonical right.now.table }
+    ensures { IsTrue result ↔ (left.now.table ≡ right.now.table) }
 {
-    let (left, right) = (left.table(), right.table());
     same_shape(left, right)
         && same_roots(left, right)
         && same_rows(left, right)
         && same_outs(left, right)
+}
+
+/// Whether two canonical tables are equal. Where the bases and numbers of tracks are equal, they are so exactly where they accept
+/// the same words.
+pub fn same(left: &Canon, right: &Canon) -> bool
+    ensures tables { IsTrue result ↔ (left.now.table ≡ right.now.table) }
+    ensures words { left.now.table.base ≡ right.now.table.base → left.now.table.tracks ≡ right.now.table.tracks → (IsTrue result ↔ AcceptSameWords left.now.table right.now.table) }
+{
+    same_tables(left.table(), right.table())
 }

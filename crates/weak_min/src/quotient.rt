@@ -1,7 +1,7 @@
 //! The quotient of a diagram by classes of states that behave alike (Myhill and Nerode), explored breadth first from its starts, so
 //! that each state is reached and numbered by its least path. Costs a look-up for each class and letter.
 
-ghost use Rattle.std.specs.Prelude.{◌≡◌, ◌<◌, ◌^◌, [], ◌∷◌, length, slice_index, IfOk, OnOk};
+ghost use Rattle.std.specs.Prelude.{◌≡◌, ◌<◌, ◌≤◌, ◌+◌, ◌*◌, ◌^◌, [], ◌∷◌, length, slice_index, IfOk, OnOk};
 ghost use Rattle.graph_laws.specs.Exploring.{IsExplored};
 ghost use Rattle.lash_model.specs.Tables.{letters, ints, IsTable, IsDiagram};
 ghost use Rattle.canonical_laws.specs.Behaviour.{AreClasses};
@@ -20,18 +20,21 @@ const MOST_CELLS: u64 = 16_777_216;
 /// A diagram and the classes of its states, as a machine: a class is named by its least state, and goes where that goes.
 #[derive(Drop)]
 pub struct Quotient<'a, C: Cells> {
+    width: u32,
     table: &'a Table<C>,
     classes: &'a [u32],
 }
 
 impl<'a, C: Cells> Model for Quotient<'a, C> {
+    ghost use Rattle.std.specs.Prelude.{◌≡◌};
+    ghost use Rattle.lash_model.specs.Tables.{letters};
     ghost use Rattle.weak_min.specs.Quotients.{Classed, IsClassed};
 
     ghost Value = { Classed };
 
     ghost view = { λ m. record { table = m.table.now.table; classes = m.classes.now } };
 
-    ghost invariant = { λ m. IsClassed (record { table = m.table.now.table; classes = m.classes.now }) };
+    ghost invariant = { λ m. (m.width ≡ letters m.table.now.table) × IsClassed (record { table = m.table.now.table; classes = m.classes.now }) };
 }
 
 /// Writes the key of a class.
@@ -47,27 +50,33 @@ fn write_class(class: u32, into: &mut Key) -> Result<(), Memory>
 
 impl<'a, C: Cells> Quotient<'a, C> {
     fn new(table: &'a Table<C>, classes: &'a [u32]) -> Self
-        requires { IsClassed (record { table = table.now.table; classes = classes.now }) }
-        ensures { result ≡ record { table = table.now.table; classes = classes.now } }
+        requires diagram { IsDiagram table.now.table }
+        requires classes { AreClasses table.now.table.rows (letters table.now.table) table.now.table.outs classes.now }
+        ensures value { result ≡ record { table = table.now.table; classes = classes.now } }
+        ensures classed { IsClassed result }
     {
-        Quotient { table, classes }
+        Quotient {
+            width: table.letters(),
+            table,
+            classes,
+        }
     }
 
-    /// The number of sign vectors.
-    fn signs(&self) -> usize
-        ensures value { result ≡ 2 ^ self.now.table.tracks }
-        ensures classed { IsClassed self.now }
+    /// The number of roots, one for each sign vector.
+    fn roots(&self) -> usize
+        ensures value { result ≡ length self.now.table.roots }
+        ensures few { result ≤ 4096 }
     {
         2usize.pow(self.table.tracks())
     }
 
     /// The class of a root.
-    fn root(&self, sign: u32) -> u32
-        requires { sign < 2 ^ self.now.table.tracks }
-        ensures value { result ≡ slice_index self.now.classes (slice_index self.now.table.roots sign) }
+    fn root(&self, at: usize) -> u32
+        requires { at < length self.now.table.roots }
+        ensures value { result ≡ slice_index self.now.classes (slice_index self.now.table.roots at) }
         ensures below { result < ints self.now.table }
     {
-        self.classes[self.table.root(sign) as usize]
+        self.classes[self.table.root(at as u32) as usize]
     }
 
     /// The class of a target.
@@ -87,15 +96,15 @@ impl<C: Cells> Machine for Quotient<'_, C> {
     ghost meaning = { quotient };
 
     fn letters(&self) -> u32 {
-        self.table.letters()
+        self.width
     }
 
     fn starts(&self) -> usize {
-        self.signs()
+        self.roots()
     }
 
     fn start(&mut self, at: usize, into: &mut Key) -> Result<(), Memory> {
-        write_class(self.root(at as u32), into)
+        write_class(self.root(at), into)
     }
 
     fn step(&mut self, from: &Key, letter: u32, into: &mut Key) -> Result<(), Memory> {
@@ -113,8 +122,10 @@ fn explored<C: Cells>(
     table: &Table<C>,
     classes: &[u32],
 ) -> Result<Explored, Memory>
-    requires { IsClassed (record { table = table.now.table; classes = classes.now }) }
-    ensures { IfOk result (λ k. IsExplored (quotient (record { table = table.now.table; classes = classes.now })) 16777216 k) }
+    requires diagram { IsDiagram table.now.table }
+    requires classes { AreClasses table.now.table.rows (letters table.now.table) table.now.table.outs classes.now }
+    ensures classed { IsClassed (record { table = table.now.table; classes = classes.now }) }
+    ensures explored { IfOk result (λ k. IsExplored (quotient (record { table = table.now.table; classes = classes.now })) 16777216 k) }
 {
     match explore(alloc, &mut Quotient::new(table, classes), MOST_CELLS) {
         Ok(found) => Ok(found),
