@@ -97,8 +97,10 @@ separated c k outs m p q p_in q_in b = same_place k.keys (class_key c.classes j.
   where
     i : HasState c k p
     i = state_at c k outs m p (subst (λ n. p < n) m.count p_in)
+
     j : HasState c k q
     j = state_at c k outs m q (subst (λ n. q < n) m.count q_in)
+
     alike : Behaves c.table.rows (letters c.table) c.table.outs i.state j.state
     alike w a = sym (out_after c k outs m p i.state w i.inside i.key a) ∙ b w a ∙ out_after c k outs m q j.state w j.inside j.key a
 
@@ -153,8 +155,10 @@ is_table_of c k u e f = same_table u.table (table_of c.table k u.table.outs) f.s
   where
     roots_count : length u.table.roots ≡ 2 ^ c.table.tracks
     roots_count = f.shape.table.roots_count ∙ ap (λ n. 2 ^ n) f.shape.tracks_are
+
     widths : letters u.table ≡ k.width
     widths = ap (λ b. b ^ u.table.tracks) f.shape.base_is ∙ ap (λ n. c.table.base ^ n) f.shape.tracks_are ∙ sym f.shape.width
+
     rows_count : length u.table.rows ≡ length k.keys * k.width
     rows_count = f.shape.table.rows_count ∙ ap (λ n. n * letters u.table) f.shape.states ∙ ap (λ w. length k.keys * w) widths
 

@@ -23,9 +23,9 @@ few_roots source k u s = few_signs source.base source.tracks (subst (λ b. 2 ≤
 -- one entry more
 one_more : (xs : List ℕ) (f : ℕ → ℕ) (n to : ℕ) → ((p : ℕ) → p < n → slice_index xs p ≡ f p) → n < length xs → to ≡ f n → (p : ℕ) → p < n + 1 → slice_index (slice_set xs n to) p ≡ f p
 one_more xs f n to each inside is p lt = elim (cases_lt p n) [
-    | inl before ↦ get_or-set_other xs n p to 0 (apart before) ∙ each p before
-    | inr last ↦ written (omega (arith, lt, last))
-  ]
+  | inl before ↦ get_or-set_other xs n p to 0 (apart before) ∙ each p before
+  | inr last ↦ written (omega (arith, lt, last))
+]
   where
     apart : p < n → p ≡ n → ⊥
     apart h e = omega (arith, h, e)

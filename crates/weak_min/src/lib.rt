@@ -3,9 +3,13 @@
 
 mod canon;
 mod comparison;
+mod copies;
 mod filling;
 mod quotient;
 
-pub use canon::Canon;
+pub use canon::{Canon, canonical};
 pub use comparison::same;
 pub use quotient::quotient_table;
+
+#[cfg(test)]
+mod tests;

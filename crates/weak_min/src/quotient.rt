@@ -117,11 +117,7 @@ impl<C: Cells> Machine for Quotient<'_, C> {
 }
 
 /// The classes that are reached, numbered by their least paths. Only memory can be wanting.
-fn explored<C: Cells>(
-    alloc: Global,
-    table: &Table<C>,
-    classes: &[u32],
-) -> Result<Explored, Memory>
+fn explored<C: Cells>(alloc: Global, table: &Table<C>, classes: &[u32]) -> Result<Explored, Memory>
     requires diagram { IsDiagram table.now.table }
     requires classes { AreClasses table.now.table.rows (letters table.now.table) table.now.table.outs classes.now }
     ensures classed { IsClassed (record { table = table.now.table; classes = classes.now }) }
