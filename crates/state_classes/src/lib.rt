@@ -1,0 +1,11 @@
+//! Classes of the states of a graph that behave alike.
+#![tactic(auto)]
+
+mod rounds;
+mod signatures;
+
+pub use rounds::classes;
+pub use signatures::Key;
+
+#[cfg(test)]
+mod tests;
