@@ -11,13 +11,13 @@ abbrev pub count_true : (ℕ → Bool) → ℕ → ℕ
 count_true f zero = 0
 count_true f (suc n) = count_true f n + one_if (f n)
 
+at_most_one : (b : Bool) → one_if b ≤ 1
+at_most_one true = omega arith
+at_most_one false = omega arith
+
 pub count_at_most : (f : ℕ → Bool) (n : ℕ) → count_true f n ≤ n
 count_at_most f zero = omega arith
-count_at_most f (suc n) = by (f n)
-  where
-    by : (b : Bool) → count_true f n + one_if b ≤ suc n
-    by true = omega (arith, count_at_most f n)
-    by false = omega (arith, count_at_most f n)
+count_at_most f (suc n) = omega (arith, count_at_most f n, at_most_one (f n))
 
 one_if_more : (a b : Bool) → (a ≡ true → b ≡ true) → one_if a ≤ one_if b
 one_if_more true true h = omega arith
@@ -42,8 +42,8 @@ counts_same f g (suc n) h e q lt passes =
     let last : one_if (f n) ≤ one_if (g n) = one_if_more (f n) (g n) (h n (omega arith)) in
     let rest_same : count_true f n ≡ count_true g n = omega arith in
     elim (cases_lt q n) [
-      inl below ↦ counts_same f g n (λ p under. h p (omega arith)) rest_same q below passes
-    | inr above ↦ let at : q ≡ n = omega arith in
-        let P : ℕ → Type 0 = λ p. g p ≡ true → f p ≡ true in
-        subst P (sym at) (both_same (f n) (g n) (omega arith)) passes
+      | inl below ↦ counts_same f g n (λ p under. h p (omega arith)) rest_same q below passes
+      | inr above ↦ let at : q ≡ n = omega arith in
+          let P : ℕ → Type 0 = λ p. g p ≡ true → f p ≡ true in
+          subst P (sym at) (both_same (f n) (g n) (omega arith)) passes
     ]

@@ -5,7 +5,6 @@ mod rounds;
 mod signatures;
 
 pub use rounds::classes;
-pub use signatures::Key;
 
 #[cfg(test)]
 mod tests;

@@ -5,7 +5,7 @@ ghost use Rattle.std.specs.Prelude.{◌≡◌, ◌*◌, ◌<◌, ◌^◌, length
 ghost use Rattle.canonical_laws.specs.Behaviour.{AreClasses};
 ghost use Rattle.state_classes.specs.Signatures.{signature, NamesLeast};
 
-use crate::signatures::{first_state, sign, Key};
+use crate::signatures::{Key, first_state, sign};
 use indexmap::IndexMap;
 use lash_io::Memory;
 use smallvec::SmallVec;

@@ -10,7 +10,7 @@ use smallvec::SmallVec;
 use std::alloc::Global;
 
 /// A signature: the colour of a state, and then those of its targets. Up to 8 numbers stand in place.
-pub type Key = SmallVec<u32, 8, Global>;
+pub(crate) type Key = SmallVec<u32, 8, Global>;
 
 /// Writes the signature of a state.
 pub(crate) fn sign(
@@ -60,7 +60,8 @@ pub(crate) fn first_state(
         Err(_) => return Err(Memory),
     };
     match firsts.insert(copy, state) {
-        Ok(_) => Ok(state),
-        Err(_) => Err(Memory),
+        Ok(_) => {}
+        Err(_) => return Err(Memory),
     }
+    Ok(state)
 }
