@@ -1,0 +1,4 @@
+pub mod ClassRuns
+pub mod Explorations
+pub mod FillingSteps
+pub mod Comparing

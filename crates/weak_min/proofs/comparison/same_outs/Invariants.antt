@@ -1,0 +1,6 @@
+use Rattle.std.proofs.Common.{◌≡◌, ◌+◌, ◌*◌, ◌<◌, ℕ, slice_index}
+use Rattle.lash_model.specs.Tables.{letters}
+use Rattle.weak_min.proofs.comparison.same_outs.Given as goal
+
+abbrev pub invariant-loop-state : goal.invariant-loop-state
+invariant-loop-state l = (k : ℕ) → k < l.state → slice_index l.left.table.outs k ≡ slice_index l.right.table.outs k

@@ -1,0 +1,95 @@
+//! Whether two canonical tables are equal, entry by entry. Costs one look at each entry, and takes no memory.
+
+ghost use Rattle.std.specs.Prelude.{◌≡◌, ◌↔◌, ◌+◌, ◌*◌, ◌^◌, ◌<◌, ℕ, IsTrue, slice_index};
+ghost use Rattle.lash_model.specs.Tables.{letters, ints, IsTable};
+ghost use Rattle.canonical_laws.specs.Canonical.{IsCanonical, AcceptSameWords};
+
+use crate::Canon;
+use step_tables::{Plain, Table};
+
+/// Whether base, number of tracks and number of states are equal.
+fn same_shape(left: &Table<Plain>, right: &Table<Plain>) -> bool
+    ensures { IsTrue result ↔ ((left.now.table.base ≡ right.now.table.base) × (left.now.table.tracks ≡ right.now.table.tracks) × (ints left.now.table ≡ ints right.now.table)) }
+{
+    left.base() == right.base() && left.tracks() == right.tracks() && left.ints() == right.ints()
+}
+
+/// Whether all roots are equal.
+fn same_roots(left: &Table<Plain>, right: &Table<Plain>) -> bool
+    requires left { IsTable left.now.table }
+    requires right { IsTable right.now.table }
+    requires tracks { left.now.table.tracks ≡ right.now.table.tracks }
+    ensures { IsTrue result ↔ (left.now.table.roots ≡ right.now.table.roots) }
+{
+    for sign in 0..2u32.pow(left.tracks()) {
+        if left.root(sign) != right.root(sign) {
+            return false;
+        }
+    }
+    true
+}
+
+/// Whether all targets of a state are equal.
+fn same_row(left: &Table<Plain>, right: &Table<Plain>, state: u32) -> bool
+    requires letters { letters left.now.table ≡ letters right.now.table }
+    requires left { state < ints left.now.table }
+    requires right { state < ints right.now.table }
+    ensures { IsTrue result ↔ ((l : ℕ) → l < letters left.now.table → slice_index left.now.table.rows (state * letters left.now.table + l) ≡ slice_index right.now.table.rows (state * letters left.now.table + l)) }
+{
+    for letter in 0..left.letters() {
+        if left.int_step(state, letter) != right.int_step(state, letter) {
+            return false;
+        }
+    }
+    true
+}
+
+/// Whether all targets are equal.
+fn same_rows(left: &Table<Plain>, right: &Table<Plain>) -> bool
+    requires left { IsTable left.now.table }
+    requires right { IsTable right.now.table }
+    requires letters { letters left.now.table ≡ letters right.now.table }
+    requires states { ints left.now.table ≡ ints right.now.table }
+    ensures { IsTrue result ↔ (left.now.table.rows ≡ right.now.table.rows) }
+{
+    for state in 0..left.ints() {
+        if !same_row(left, right, state) {
+            return false;
+        }
+    }
+    true
+}
+
+/// Whether all outputs are equal.
+fn same_outs(left: &Table<Plain>, right: &Table<Plain>) -> bool
+    requires { ints left.now.table ≡ ints right.now.table }
+    ensures { IsTrue result ↔ (left.now.table.outs ≡ right.now.table.outs) }
+{
+    for state in 0..left.ints() {
+        if left.out(state) != right.out(state) {
+            return false;
+        }
+    }
+    true
+}
+
+/// Whether two diagrams that are canonical are equal. Neither has fraction states.
+fn same_tables(left: &Table<Plain>, right: &Table<Plain>) -> bool
+    requires left { IsCanonical left.now.table }
+    requires right { IsCanonical right.now.table }
+    ensures { IsTrue result ↔ (left.now.table ≡ right.now.table) }
+{
+    same_shape(left, right)
+        && same_roots(left, right)
+        && same_rows(left, right)
+        && same_outs(left, right)
+}
+
+/// Whether two canonical tables are equal. Where the bases and numbers of tracks are equal, they are so exactly where they accept
+/// the same words.
+pub fn same(left: &Canon, right: &Canon) -> bool
+    ensures tables { IsTrue result ↔ (left.now.table ≡ right.now.table) }
+    ensures words { left.now.table.base ≡ right.now.table.base → left.now.table.tracks ≡ right.now.table.tracks → (IsTrue result ↔ AcceptSameWords left.now.table right.now.table) }
+{
+    same_tables(left.table(), right.table())
+}
