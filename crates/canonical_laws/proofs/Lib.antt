@@ -1,3 +1,4 @@
 pub mod Uniqueness
 pub mod Diagrams
 pub mod TextReading
+pub mod Carrying

@@ -1,5 +1,6 @@
 -- Canonical diagrams: every state is reached, states are numbered by their least paths, and no two behave alike (own numbering).
-use Rattle.std.specs.Prelude.{ℕ, ◌^◌, ◌<◌, ◌≡◌, List, length, slice_index}
+use Rattle.std.specs.Prelude.{ℕ, ◌^◌, ◌<◌, ◌≡◌, ◌↔◌, List, length, slice_index, ℤ}
+use Rattle.lash_model.specs.Words.{values}
 use Rattle.lash_model.specs.Acceptance.{accepts_word}
 use Rattle.std.specs.List.{AllByRecursion}
 use Rattle.graph_laws.specs.Walks.{go}
@@ -40,3 +41,7 @@ pub record IsCanonical (t : Table) : Type 0 where
 -- the two diagrams accept the same words, under each sign vector
 abbrev pub AcceptSameWords : Table → Table → Type 0
 AcceptSameWords t u = (sign : ℕ) (w : List ℕ) → sign < 2 ^ t.tracks → AllByRecursion (λ l. l < letters t) w → accepts_word t sign w ≡ accepts_word u sign w
+
+-- the same words spell members of both sets
+abbrev pub AgreeOnWords : ℕ → ℕ → (List ℤ → ℕ → Type 0) → (List ℤ → ℕ → Type 0) → Type 0
+AgreeOnWords base tracks P Q = (sign : ℕ) (w : List ℕ) → sign < 2 ^ tracks → AllByRecursion (λ l. l < base ^ tracks) w → P (values base tracks sign w) 1 ↔ Q (values base tracks sign w) 1

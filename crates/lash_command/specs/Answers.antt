@@ -1,12 +1,14 @@
 -- What a run answers, and what each answer says of the bytes that were there.
-use Rattle.std.specs.Prelude.{ℕ, ◌+◌, ◌<◌, ◌≡◌, ◌⊎◌, ◌≢◌, List, [], ◌∷◌, ◌++◌, Option, IfSome, codes, ℤ, pos}
+use Rattle.std.specs.Prelude.{ℕ, ◌+◌, ◌<◌, ◌≡◌, ◌⊎◌, ◌≢◌, ◌↔◌, List, [], ◌∷◌, ◌++◌, Option, IfSome, codes, ℤ, pos}
 use Rattle.std.specs.Io.KnownBytes.{IsAtEnd}
 use Rattle.lash_model.specs.Faults.{IsFaultCounted}
 use Rattle.lash_model.specs.Formulas.{Sort, Int, Linear, Formula, Le}
 use Rattle.lash_model.specs.Tables.{Table}
 use Rattle.lash_model.specs.Standing.{StandsFor}
 use Rattle.lash_model.specs.Text.{text_of}
-use Rattle.lash_model.specs.Thresholds.{AtMost, IsAtomTable, IsHeavyAtom}
+use Rattle.lash_model.specs.Meaning.{Solves}
+use Rattle.lash_model.specs.Thresholds.{AtMost, IsHeavyAtom}
+use Rattle.canonical_laws.specs.Canonical.{IsCanonical}
 use Rattle.lash_io.specs.Sinks.{Holds, HoldsPart}
 use Rattle.lash_command.specs.Form.{IsForm}
 use Rattle.lash_command.specs.declared.status.Status.{Status}
@@ -24,10 +26,16 @@ at_most number = record { terms = (0, pos 1) ∷ []; constant = pos number }
 abbrev pub x_int : List (List ℕ × Sort)
 x_int = (codes "x", Int) ∷ []
 
--- the table that is shown: it stands for the integers x up to the number, its states count thresholds, its cells are in the limit
+-- the automaton that is shown: the canonical one, in base 2 and over one track, that stands for the integers x up to the number
 pub record IsAnswer (number : ℕ) (t : Table) : Type 0 where
   pub stands : StandsFor t (Int ∷ []) (Le (at_most number))
-  pub counts : IsAtomTable AtMost (at_most number) 2 1 cells_limit t
+  pub canonical : IsCanonical t
+  pub base : t.base ≡ 2
+  pub tracks : t.tracks ≡ 1
+
+-- the same integers solve both sets
+abbrev pub Agree : Formula → Formula → Type 0
+Agree f g = (k : ℤ) → Solves (Int ∷ []) f (k ∷ []) 1 ↔ Solves (Int ∷ []) g (k ∷ []) 1
 
 -- what a run met: how many words, and what the source had left and the sinks held, with their counts of faults, before and after
 pub record Met : Type 0 where

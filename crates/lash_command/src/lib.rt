@@ -2,11 +2,13 @@
 #![tactic(auto)]
 
 mod form;
+mod laws;
 mod program;
 mod show;
 mod status;
 mod taking;
 
+pub use laws::texts_are_equal_where_sets_agree;
 pub use program::{report, run};
 pub use status::Status;
 

@@ -1,4 +1,4 @@
-//! Showing a set: its table is built, and its text written.
+//! Showing a set: its table is built, made canonical, and its text written.
 
 ghost use Rattle.std.specs.Prelude.{◌≡◌, ◌<◌, ◌^◌, ◌++◌, ℕ, IfOk, pos};
 ghost use Rattle.lash_command.specs.Answers.{Shows, at_most, x_int};
@@ -11,6 +11,7 @@ use lash_io::{Memory, Sink};
 use linear_atoms::{AtomKind, atom_int};
 use std::alloc::Global;
 use step_tables::BuildError;
+use weak_min::canonical;
 
 /// The cells that one construction may have.
 const CELLS_LIMIT: u64 = 4_194_304;
@@ -65,7 +66,11 @@ pub fn show<K: Sink>(alloc: Global, number: u32, out: &mut K) -> Status
         Err(BuildError::Heavy) => return Status::TooLarge,
         Err(BuildError::Memory) => return Status::NoMemory,
     };
-    match write_table(&table, &header, out) {
+    let shown = match canonical(alloc, &table) {
+        Ok(shown) => shown,
+        Err(Memory) => return Status::NoMemory,
+    };
+    match write_table(shown.table(), &header, out) {
         Ok(()) => Status::Fine,
         Err(_) => Status::WriteFault,
     }

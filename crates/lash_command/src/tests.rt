@@ -6,7 +6,7 @@ use std::alloc::{AllocError, Global};
 use std::test::Fail;
 
 const TABLE: &[u8] =
-    b"lash 1\nbase 2\nvars x int\nint 5\nroots 1 0\n0 + 0 0\n1 + 1 2\n2 + 3 3\n3 + 4 4\n4 - 4 4\nend\n";
+    b"lash 1\nbase 2\nvars x int\nint 5\nroots 0 1\n0 + 0 2\n1 + 1 1\n2 + 3 3\n3 + 4 4\n4 - 4 4\nend\n";
 
 /// Bytes that come in pieces of five, from a source whose stated calls fail.
 fn source(alloc: Global, script: &[u8], fails: &[u64]) -> Result<MemSource, AllocError> {
