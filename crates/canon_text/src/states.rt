@@ -1,7 +1,8 @@
 //! The lines of the states. Own.
 
-ghost use Rattle.std.specs.Prelude.{◌<◌, ◌≤◌, ◌^◌, length, OnErr};
+ghost use Rattle.std.specs.Prelude.{◌<◌, ◌≤◌, OnErr};
 ghost use Rattle.lash_model.specs.Faults.{IsFaultCounted};
+ghost use Rattle.lash_model.specs.Tables.{letters, ints, fracs};
 ghost use Rattle.lash_model.specs.Text.{texts_upto, out_text, targets_text, int_line, frac_line};
 ghost use Rattle.lash_io.specs.Blocks.{Passes};
 
@@ -34,8 +35,8 @@ fn put_int_targets<C: Cells, K: Sink>(
     table: &Table<C>,
     state: u32,
 ) -> Result<(), Failed>
-    requires { state < length table.now.table.outs }
-    ensures bytes { Passes (K.held sink.old) block.old (K.held sink.new) block.new result (targets_text table.now.table.rows (table.now.table.base ^ table.now.table.tracks) state) }
+    requires { state < ints table.now.table }
+    ensures bytes { Passes (K.held sink.old) block.old (K.held sink.new) block.new result (targets_text table.now.table.rows (letters table.now.table) state) }
     ensures count { K.faults sink.old ≤ K.faults sink.new }
     ensures cause { OnErr result (IsFaultCounted (K.faults sink.old) (K.faults sink.new)) }
 {
@@ -52,7 +53,7 @@ fn put_int_line<C: Cells, K: Sink>(
     table: &Table<C>,
     state: u32,
 ) -> Result<(), Failed>
-    requires { state < length table.now.table.outs }
+    requires { state < ints table.now.table }
     ensures bytes { Passes (K.held sink.old) block.old (K.held sink.new) block.new result (int_line table.now.table state) }
     ensures count { K.faults sink.old ≤ K.faults sink.new }
     ensures cause { OnErr result (IsFaultCounted (K.faults sink.old) (K.faults sink.new)) }
@@ -69,7 +70,7 @@ pub(crate) fn put_int_lines<C: Cells, K: Sink>(
     sink: &mut K,
     table: &Table<C>,
 ) -> Result<(), Failed>
-    ensures bytes { Passes (K.held sink.old) block.old (K.held sink.new) block.new result (texts_upto (int_line table.now.table) (length table.now.table.outs)) }
+    ensures bytes { Passes (K.held sink.old) block.old (K.held sink.new) block.new result (texts_upto (int_line table.now.table) (ints table.now.table)) }
     ensures count { K.faults sink.old ≤ K.faults sink.new }
     ensures cause { OnErr result (IsFaultCounted (K.faults sink.old) (K.faults sink.new)) }
 {
@@ -86,8 +87,8 @@ fn put_frac_targets<C: Cells, K: Sink>(
     table: &Table<C>,
     state: u32,
 ) -> Result<(), Failed>
-    requires { state < length table.now.table.colours }
-    ensures bytes { Passes (K.held sink.old) block.old (K.held sink.new) block.new result (targets_text table.now.table.frac_rows (table.now.table.base ^ table.now.table.tracks) state) }
+    requires { state < fracs table.now.table }
+    ensures bytes { Passes (K.held sink.old) block.old (K.held sink.new) block.new result (targets_text table.now.table.frac_rows (letters table.now.table) state) }
     ensures count { K.faults sink.old ≤ K.faults sink.new }
     ensures cause { OnErr result (IsFaultCounted (K.faults sink.old) (K.faults sink.new)) }
 {
@@ -104,7 +105,7 @@ fn put_frac_line<C: Cells, K: Sink>(
     table: &Table<C>,
     state: u32,
 ) -> Result<(), Failed>
-    requires { state < length table.now.table.colours }
+    requires { state < fracs table.now.table }
     ensures bytes { Passes (K.held sink.old) block.old (K.held sink.new) block.new result (frac_line table.now.table state) }
     ensures count { K.faults sink.old ≤ K.faults sink.new }
     ensures cause { OnErr result (IsFaultCounted (K.faults sink.old) (K.faults sink.new)) }
@@ -121,7 +122,7 @@ pub(crate) fn put_frac_lines<C: Cells, K: Sink>(
     sink: &mut K,
     table: &Table<C>,
 ) -> Result<(), Failed>
-    ensures bytes { Passes (K.held sink.old) block.old (K.held sink.new) block.new result (texts_upto (frac_line table.now.table) (length table.now.table.colours)) }
+    ensures bytes { Passes (K.held sink.old) block.old (K.held sink.new) block.new result (texts_upto (frac_line table.now.table) (fracs table.now.table)) }
     ensures count { K.faults sink.old ≤ K.faults sink.new }
     ensures cause { OnErr result (IsFaultCounted (K.faults sink.old) (K.faults sink.new)) }
 {
