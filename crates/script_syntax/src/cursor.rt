@@ -1,9 +1,9 @@
 //! A cursor over tokens.
 
-ghost use Rattle.std.specs.Prelude.{◌≡◌, ◌<◌, ◌≤◌, length, drop};
+ghost use Rattle.std.specs.Prelude.{◌≡◌, ◌<◌, ◌≤◌, length, drop, map, [], ◌↔◌, IsTrue};
 ghost use Rattle.parser_laws.specs.Parsing.{starts_with, res_map};
 ghost use Rattle.script_grammar.specs.Views.{is, is_kind, sign};
-ghost use Rattle.script_tokens.specs.Shape.{token_of};
+ghost use Rattle.script_tokens.specs.Shape.{placed_of, token_of};
 ghost use Rattle.script_syntax.specs.Reading.{token_at, shown, forgotten, Agrees};
 
 use script_tokens::{Kind, Placed, Token};
@@ -20,6 +20,7 @@ pub enum Stop {
 }
 
 /// A place in a list of tokens, seen as the tokens that are left.
+#[derive(Debug, Drop)]
 pub struct Cursor<'a> {
     tokens: &'a [Placed<'a>],
     at: usize,
@@ -38,6 +39,20 @@ impl<'a> Model for Cursor<'a> {
 }
 
 impl<'a> Cursor<'a> {
+    /// At the first of the tokens.
+    pub fn new(tokens: &'a [Placed<'a>]) -> Cursor<'a>
+        ensures { result ≡ map placed_of tokens.now }
+    {
+        Cursor { tokens, at: 0 }
+    }
+
+    /// Whether no token is left.
+    pub fn is_at_end(&self) -> bool
+        ensures { IsTrue result ↔ (self.now ≡ []) }
+    {
+        self.token().is_none()
+    }
+
     /// The token in hand, if there is one.
     pub fn token(&self) -> Option<Placed<'a>>
         ensures { token_at self.now ≡ shown result }

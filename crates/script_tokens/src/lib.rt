@@ -11,7 +11,7 @@ ghost use Rattle.script_tokens.specs.Kinds.{spelled};
 ghost use Rattle.script_tokens.specs.Lexing.{sign_in};
 
 pub use kind::{KEYWORDS, Kind, SIGNS};
-pub use token::{Placed, Token};
+pub use token::{Placed, Token, tokens};
 
 /// The sign that is taken is the longest one with which the bytes begin.
 pub fn takes_the_longest_sign()
