@@ -65,13 +65,14 @@ unfolding part
 related_parts t u ct cu eb et same = record {
   starts = ct.table.roots_count ∙ ap (λ n. 2 ^ n) et ∙ sym cu.table.roots_count;
   outs = λ p v. same_truth (slice_index t.outs (walked t.roots t.rows (letters t) p)) (slice_index u.outs (walked u.roots u.rows (letters t) p))
-    (out_below t ct.table ct.diagram (walked t.roots t.rows (letters t) p) (go_below (letters t) (part t) (closed_part t ct.table) (slice_index t.roots p.start) p.word (read_below t.roots (length t.outs) p.start ct.table.roots_in v.start) v.letters))
-    (out_below u cu.table cu.diagram (walked u.roots u.rows (letters t) p) (go_below (letters t) (part u) (subst (λ w. IsClosed w (part u)) (sym widths) (closed_part u cu.table)) (slice_index u.roots p.start) p.word (read_below u.roots (length u.outs) p.start cu.table.roots_in (other_start p v.start)) v.letters))
-    (same p.start p.word (subst (λ n. p.start < n) ct.table.roots_count v.start) v.letters ∙ ap (λ w. nat_eq (slice_index u.outs (walked u.roots u.rows w p)) 1) (sym widths));
+      (out_below t ct.table ct.diagram (walked t.roots t.rows (letters t) p) (go_below (letters t) (part t) (closed_part t ct.table) (slice_index t.roots p.start) p.word (read_below t.roots (length t.outs) p.start ct.table.roots_in v.start) v.letters))
+      (out_below u cu.table cu.diagram (walked u.roots u.rows (letters t) p) (go_below (letters t) (part u) (subst (λ w. IsClosed w (part u)) (sym widths) (closed_part u cu.table)) (slice_index u.roots p.start) p.word (read_below u.roots (length u.outs) p.start cu.table.roots_in (other_start p v.start)) v.letters))
+      (same p.start p.word (subst (λ n. p.start < n) ct.table.roots_count v.start) v.letters ∙ ap (λ w. nat_eq (slice_index u.outs (walked u.roots u.rows w p)) 1) (sym widths));
 }
   where
     widths : letters t ≡ letters u
     widths = ap (λ b. b ^ t.tracks) eb ∙ ap (λ n. u.base ^ n) et
+
     other_start : (p : Path) → p.start < length t.roots → p.start < length u.roots
     other_start p lt = subst (λ n. p.start < n) (ct.table.roots_count ∙ ap (λ n. 2 ^ n) et ∙ sym cu.table.roots_count) lt
 
@@ -120,11 +121,15 @@ diagrams_unique t u ct cu eb et same = same_table t u eb et
   where
     widths : letters t ≡ letters u
     widths = ap (λ b. b ^ t.tracks) eb ∙ ap (λ n. u.base ^ n) et
+
     r : AreRelated (letters t) (λ x y. x ≡ y) (part t) (part u)
     r = related_parts t u ct cu eb et same
+
     mt : IsMinimal (letters t) (part t)
     mt = minimal_part t ct
+
     mu : IsMinimal (letters t) (part u)
     mu = subst (λ w. IsMinimal w (part u)) (sym widths) (minimal_part u cu)
+
     states : length t.outs ≡ length u.outs
     states = same_states (letters t) (λ x y. x ≡ y) (part t) (part u) mt mu equal_is_one_to_one r

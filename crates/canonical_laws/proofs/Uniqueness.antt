@@ -88,12 +88,14 @@ meet_too width rel a b t p q vp vq e = t.other.separated (after width b p) (afte
   where
     meets : (w : List ℕ) → after width a (longer q w) ≡ after width a (longer p w)
     meets w = after_longer width a q w ∙ ap (λ s. go a.rows width s w) (sym e) ∙ sym (after_longer width a p w)
+
     rel_at : (x : Path) → IsPathOf a.starts width x → rel (slice_index a.outs (after width a x)) (slice_index b.outs (after width b x))
     rel_at x v = related_at width rel a b t.related x v
+
     every : (w : List ℕ) → AllByRecursion (λ l. l < width) w → slice_index b.outs (go b.rows width (after width b p) w) ≡ slice_index b.outs (go b.rows width (after width b q) w)
     every w letters = ap (slice_index b.outs) (sym (after_longer width b p w))
-      ∙ t.apart.right (slice_index a.outs (after width a (longer p w))) (slice_index b.outs (after width b (longer p w))) (slice_index b.outs (after width b (longer q w))) (rel_at (longer p w) (longer_valid a.starts width p w vp letters)) (subst (λ s. rel (slice_index a.outs s) (slice_index b.outs (after width b (longer q w)))) (meets w) (rel_at (longer q w) (longer_valid a.starts width q w vq letters)))
-      ∙ ap (slice_index b.outs) (after_longer width b q w)
+        ∙ t.apart.right (slice_index a.outs (after width a (longer p w))) (slice_index b.outs (after width b (longer p w))) (slice_index b.outs (after width b (longer q w))) (rel_at (longer p w) (longer_valid a.starts width p w vp letters)) (subst (λ s. rel (slice_index a.outs s) (slice_index b.outs (after width b (longer q w)))) (meets w) (rel_at (longer q w) (longer_valid a.starts width q w vq letters)))
+        ∙ ap (slice_index b.outs) (after_longer width b q w)
 
 -- the twin of a state: where the other part is after the state's least path
 twin : (width : ℕ) (rel : ℕ → ℕ → Type 0) (a b : Part) → Twins width rel a b → ℕ → ℕ
@@ -106,7 +108,7 @@ home width g m i h = m.numbered.leads i h
 every_path : (width : ℕ) (rel : ℕ → ℕ → Type 0) (a b : Part) (t : Twins width rel a b) (p : Path) → IsPathOf a.starts width p → twin width rel a b t (after width a p) ≡ after width b p
 unfolding twin
 every_path width rel a b t p v = let q : ℕ = after width a p in let inside : q < length a.outs = after_below width a t.one.closed p v in
-  meet_too width rel a b t (path_at t.one.numbered.paths q) p (t.one.numbered.valid q inside) v (home width a t.one q inside)
+    meet_too width rel a b t (path_at t.one.numbered.paths q) p (t.one.numbered.valid q inside) v (home width a t.one q inside)
 
 there_and_back : (width : ℕ) (rel : ℕ → ℕ → Type 0) (a b : Part) (t : Twins width rel a b) (i : ℕ) → i < length a.outs → twin width (λ x y. rel y x) b a (turned width rel a b t) (twin width rel a b t i) ≡ i
 unfolding twin
@@ -124,9 +126,9 @@ least_at width g m p v = m.numbered.least p v
 one_least : (width : ℕ) (rel : ℕ → ℕ → Type 0) (a b : Part) (t : Twins width rel a b) (i : ℕ) → i < length a.outs → path_at t.other.numbered.paths (twin width rel a b t i) ≡ path_at t.one.numbered.paths i
 unfolding twin turned
 one_least width rel a b t i h = let k : ℕ = after width b (path_at t.one.numbered.paths i) in
-  let k_in : k < length b.outs = twin_below width rel a b t i h in
-  let back_valid : IsPathOf a.starts width (path_at t.other.numbered.paths k) = other_valid width (λ x y. rel y x) b a (turned width rel a b t).related (path_at t.other.numbered.paths k) (t.other.numbered.valid k k_in) in
-  meet (path_at t.other.numbered.paths k) (path_at t.one.numbered.paths i)
+    let k_in : k < length b.outs = twin_below width rel a b t i h in
+    let back_valid : IsPathOf a.starts width (path_at t.other.numbered.paths k) = other_valid width (λ x y. rel y x) b a (turned width rel a b t).related (path_at t.other.numbered.paths k) (t.other.numbered.valid k k_in) in
+    meet (path_at t.other.numbered.paths k) (path_at t.one.numbered.paths i)
     (least_at width b t.other (path_at t.one.numbered.paths i) (other_valid width rel a b t.related (path_at t.one.numbered.paths i) (t.one.numbered.valid i h)))
     (subst (λ x. AtMost (path_at t.one.numbered.paths x) (path_at t.other.numbered.paths k)) (there_and_back width rel a b t i h) (least_at width a t.one (path_at t.other.numbered.paths k) back_valid))
 
@@ -135,16 +137,20 @@ twin_rises width rel a b t i j h k = elim (cases_order x y) [ inl e ↦ absurd (
   where
     x : ℕ
     x = twin width rel a b t i
+
     y : ℕ
     y = twin width rel a b t j
+
     hi : i < length a.outs
     hi = omega (arith, h, k)
+
     equal : x ≡ y → ⊥
     equal e = omega (arith, h, sym (there_and_back width rel a b t i hi) ∙ ap (twin width (λ x y. rel y x) b a (turned width rel a b t)) e ∙ there_and_back width rel a b t j k)
+
     greater : y < x → ⊥
     greater g = never (path_at t.one.numbered.paths i) (chained (path_at t.one.numbered.paths i) (path_at t.one.numbered.paths j) (path_at t.one.numbered.paths i)
-      (t.one.numbered.rising i j (start_path 0) h (subst (λ n. j < n) (sym t.one.numbered.count) k))
-      (subst (λ p. Before p (path_at t.one.numbered.paths i)) (one_least width rel a b t j k) (subst (λ p. Before (path_at t.other.numbered.paths y) p) (one_least width rel a b t i hi) (t.other.numbered.rising y x (start_path 0) g (subst (λ n. x < n) (sym t.other.numbered.count) (twin_below width rel a b t i hi))))))
+        (t.one.numbered.rising i j (start_path 0) h (subst (λ n. j < n) (sym t.one.numbered.count) k))
+        (subst (λ p. Before p (path_at t.one.numbered.paths i)) (one_least width rel a b t j k) (subst (λ p. Before (path_at t.other.numbered.paths y) p) (one_least width rel a b t i hi) (t.other.numbered.rising y x (start_path 0) g (subst (λ n. x < n) (sym t.other.numbered.count) (twin_below width rel a b t i hi))))))
 
 at_least : (n : ℕ) (f : ℕ → ℕ) → ((i j : ℕ) → i < j → j < n → f i < f j) → (i : ℕ) → i < n → i ≤ f i
 at_least n f up zero h = omega arith
@@ -156,12 +162,16 @@ same_number width rel a b t i h = omega (arith, low, high, back)
   where
     u : Twins width (λ x y. rel y x) b a
     u = turned width rel a b t
+
     j : ℕ
     j = twin width rel a b t i
+
     low : i ≤ j
     low = at_least (length a.outs) (twin width rel a b t) (twin_rises width rel a b t) i h
+
     high : j ≤ twin width (λ x y. rel y x) b a u j
     high = at_least (length b.outs) (twin width (λ x y. rel y x) b a u) (twin_rises width (λ x y. rel y x) b a u) j (twin_below width rel a b t i h)
+
     back : twin width (λ x y. rel y x) b a u j ≡ i
     back = there_and_back width rel a b t i h
 
@@ -175,7 +185,7 @@ up_to (suc m) n f = f m (omega arith)
 -- the two parts have as many states
 pub same_states : (width : ℕ) (rel : ℕ → ℕ → Type 0) (a b : Part) → IsMinimal width a → IsMinimal width b → IsOneToOne rel → AreRelated width rel a b → length a.outs ≡ length b.outs
 same_states width rel a b m n o r = let t : Twins width rel a b = record { one = m; other = n; apart = o; related = r } in
-  omega (arith, up_to (length a.outs) (length b.outs) (no_fewer width rel a b t), up_to (length b.outs) (length a.outs) (no_fewer width (λ x y. rel y x) b a (turned width rel a b t)))
+    omega (arith, up_to (length a.outs) (length b.outs) (no_fewer width rel a b t), up_to (length b.outs) (length a.outs) (no_fewer width (λ x y. rel y x) b a (turned width rel a b t)))
 
 same_paths : (width : ℕ) (rel : ℕ → ℕ → Type 0) (a b : Part) (t : Twins width rel a b) (p : Path) → IsPathOf a.starts width p → after width a p ≡ after width b p
 same_paths width rel a b t p v = sym (same_number width rel a b t (after width a p) (after_below width a t.one.closed p v)) ∙ every_path width rel a b t p v
@@ -188,14 +198,15 @@ same_starts width rel a b m n o r j h = same_paths width rel a b (record { one =
 -- and the same targets
 pub same_targets : (width : ℕ) (rel : ℕ → ℕ → Type 0) (a b : Part) → IsMinimal width a → IsMinimal width b → IsOneToOne rel → AreRelated width rel a b → (q l : ℕ) → q < length a.outs → l < width → slice_index a.rows (q * width + l) ≡ slice_index b.rows (q * width + l)
 same_targets width rel a b m n o r q l h k =
-  ap (λ x. slice_index a.rows (x * width + l)) (sym (home width a m q h))
-  ∙ sym (after_longer width a p (l ∷ []))
-  ∙ same_paths width rel a b t (longer p (l ∷ [])) (longer_valid a.starts width p (l ∷ []) (m.numbered.valid q h) (k, tt))
-  ∙ after_longer width b p (l ∷ [])
-  ∙ ap (λ x. slice_index b.rows (x * width + l)) (sym (same_paths width rel a b t p (m.numbered.valid q h)) ∙ home width a m q h)
+    ap (λ x. slice_index a.rows (x * width + l)) (sym (home width a m q h))
+    ∙ sym (after_longer width a p (l ∷ []))
+    ∙ same_paths width rel a b t (longer p (l ∷ [])) (longer_valid a.starts width p (l ∷ []) (m.numbered.valid q h) (k, tt))
+    ∙ after_longer width b p (l ∷ [])
+    ∙ ap (λ x. slice_index b.rows (x * width + l)) (sym (same_paths width rel a b t p (m.numbered.valid q h)) ∙ home width a m q h)
   where
     t : Twins width rel a b
     t = record { one = m; other = n; apart = o; related = r }
+
     p : Path
     p = path_at m.numbered.paths q
 
@@ -206,5 +217,6 @@ related_outs width rel a b m n o r q h = subst (λ x. rel (slice_index a.outs x)
   where
     t : Twins width rel a b
     t = record { one = m; other = n; apart = o; related = r }
+
     p : Path
     p = path_at m.numbered.paths q

@@ -12,11 +12,9 @@ pub fn minimal_parts_are_unique()
     ensures states { (width : ℕ) (rel : ℕ → ℕ → Bool) (a b : Part) → IsMinimal width a → IsMinimal width b → IsOneToOne (λ x y. IsTrue (rel x y)) → AreRelated width (λ x y. IsTrue (rel x y)) a b → length a.outs ≡ length b.outs }
     ensures starts { (width : ℕ) (rel : ℕ → ℕ → Bool) (a b : Part) → IsMinimal width a → IsMinimal width b → IsOneToOne (λ x y. IsTrue (rel x y)) → AreRelated width (λ x y. IsTrue (rel x y)) a b → (j : ℕ) → j < length a.starts → slice_index a.starts j ≡ slice_index b.starts j }
     ensures targets { (width : ℕ) (rel : ℕ → ℕ → Bool) (a b : Part) → IsMinimal width a → IsMinimal width b → IsOneToOne (λ x y. IsTrue (rel x y)) → AreRelated width (λ x y. IsTrue (rel x y)) a b → (q l : ℕ) → q < length a.outs → l < width → slice_index a.rows (q * width + l) ≡ slice_index b.rows (q * width + l) }
-{
-}
+{}
 
 /// Two canonical diagrams of one base and number of tracks that accept the same words are equal.
 pub fn canonical_diagrams_are_unique()
     ensures { (t u : Table) → IsCanonical t → IsCanonical u → t.base ≡ u.base → t.tracks ≡ u.tracks → AcceptSameWords t u → t ≡ u }
-{
-}
+{}
