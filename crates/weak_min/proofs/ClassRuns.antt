@@ -1,12 +1,12 @@
 -- The class after a word is the class of the state after the word.
-use Rattle.std.proofs.Common.{◌≡◌, ℕ, ◌+◌, ◌*◌, ◌^◌, ◌≤◌, ◌<◌, List, [], ◌∷◌, length, arith, refl, ◌∙◌, sym, ap, subst}
-use Rattle.std.specs.Prelude.{slice_index, All}
+use Rattle.std.proofs.Common.{◌≡◌, ℕ, ◌+◌, ◌*◌, ◌≤◌, ◌<◌, List, [], ◌∷◌, length, arith, refl, ◌∙◌, sym, ap, subst}
+use Rattle.std.specs.Prelude.{slice_index}
 use Rattle.std.specs.List.{AllByRecursion}
 use Rattle.std.proofs.lemmas.List.{get_or-map, length-map}
 use Rattle.std.proofs.lemmas.List.Elements.{recursion_from_All}
 use Rattle.graph_laws.specs.Walks.{go}
 use Rattle.graph_laws.specs.Paths.{Path}
-use Rattle.graph_laws.specs.Exploring.{led, after, IsPath, IsReached, IsHeavy}
+use Rattle.graph_laws.specs.Exploring.{led, after, IsPath, IsHeavy}
 use Rattle.graph_laws.proofs.Weighing.{no_heavy_on_states}
 use Rattle.lash_model.specs.Tables.{letters, ints}
 use Rattle.canonical_laws.specs.Behaviour.{Behaves}

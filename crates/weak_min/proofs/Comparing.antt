@@ -1,9 +1,9 @@
 -- Comparing two canonical tables.
-use Rattle.std.proofs.Common.{◌≡◌, ℕ, ◌+◌, ◌*◌, ◌^◌, ◌<◌, ◌↔◌, List, length, ◌∙◌, sym, ap, subst, refl, IsTrue}
+use Rattle.std.proofs.Common.{◌≡◌, ℕ, ◌+◌, ◌*◌, ◌^◌, ◌<◌, ◌↔◌, length, ◌∙◌, sym, ap, subst, refl}
 use Rattle.std.specs.Prelude.{slice_index}
 use Rattle.lash_model.specs.Tables.{Table, letters, IsTable}
 use Rattle.canonical_laws.specs.Canonical.{IsCanonical, AcceptSameWords}
-use Rattle.canonical_laws.proofs.Diagrams.{same_lists, same_rows, same_table, no_frac_rows, diagrams_unique}
+use Rattle.canonical_laws.proofs.Diagrams.{same_lists, same_rows, diagrams_unique}
 
 -- tables whose roots have one entry each are equal there
 pub equal_roots : (t u : Table) → IsTable t → IsTable u → t.tracks ≡ u.tracks → ((j : ℕ) → j < 2 ^ t.tracks → slice_index t.roots j ≡ slice_index u.roots j) → t.roots ≡ u.roots
@@ -11,12 +11,6 @@ equal_roots t u h k e same = same_lists t.roots u.roots (h.roots_count ∙ ap (�
 
 pub equal_rows : (t u : Table) → IsTable t → IsTable u → letters t ≡ letters u → length t.outs ≡ length u.outs → ((q : ℕ) → q < length t.outs → (l : ℕ) → l < letters t → slice_index t.rows (q * letters t + l) ≡ slice_index u.rows (q * letters t + l)) → t.rows ≡ u.rows
 equal_rows t u h k e f same = same_rows t.rows u.rows (length t.outs) (letters t) h.rows_count (k.rows_count ∙ ap (λ n. n * letters u) (sym f) ∙ ap (λ w. length t.outs * w) (sym e)) (λ q l q_in l_in. same q q_in l l_in)
-
-pub equal_outs : (t u : Table) → length t.outs ≡ length u.outs → ((q : ℕ) → q < length t.outs → slice_index t.outs q ≡ slice_index u.outs q) → t.outs ≡ u.outs
-equal_outs t u e same = same_lists t.outs u.outs e same
-
-pub equal_tables : (t u : Table) → IsCanonical t → IsCanonical u → t.base ≡ u.base → t.tracks ≡ u.tracks → t.roots ≡ u.roots → t.rows ≡ u.rows → t.outs ≡ u.outs → t ≡ u
-equal_tables t u h k a b c d e = same_table t u a b c d e (no_frac_rows t h.table h.diagram ∙ sym (no_frac_rows u k.table k.diagram)) (h.diagram ∙ sym k.diagram)
 
 accept_same : (t u : Table) → t ≡ u → AcceptSameWords t u
 accept_same t u e = subst (λ v. AcceptSameWords t v) e (λ sign w lt a. refl)

@@ -1,6 +1,6 @@
 -- The table of the explored classes of a diagram is canonical, and accepts the same words.
-use Rattle.std.proofs.Common.{◌≡◌, ℕ, zero, suc, ◌+◌, ◌*◌, ◌^◌, ◌≤◌, ◌<◌, List, [], ◌∷◌, length, arith, refl, ◌∙◌, sym, ap, subst}
-use Rattle.std.specs.Prelude.{slice_index, slice_get, nat_eq, All}
+use Rattle.std.proofs.Common.{◌≡◌, ℕ, ◌+◌, ◌*◌, ◌^◌, ◌<◌, List, [], ◌∷◌, length, arith, refl, ◌∙◌, sym, ap, subst}
+use Rattle.std.specs.Prelude.{slice_index, slice_get, nat_eq}
 use Rattle.std.specs.declared.option.Option.TheVariants.{Some}
 use Rattle.std.specs.List.{slice_index_or, AllByRecursion}
 use Rattle.std.proofs.lemmas.Bool.{cases_order}
@@ -11,17 +11,17 @@ use Rattle.std.proofs.lemmas.Option.{slice_get_within, get_or_from_slice_get, sl
 use mathlib.Core.Logic.{inl, inr}
 use Rattle.graph_laws.specs.Walks.{go}
 use Rattle.graph_laws.specs.Paths.{Path, path_at, start_path, AtMost}
-use Rattle.graph_laws.specs.Exploring.{Steps, list_at, led, after, IsPath, weigh, IsDistinct, KeyTable, position, IsExplored}
+use Rattle.graph_laws.specs.Exploring.{Steps, list_at, after, IsPath, weigh, IsDistinct, KeyTable, position, IsExplored}
 use Rattle.graph_laws.proofs.Weighing.{table_reached}
 use Rattle.graph_laws.proofs.Positions.{positions_follow, own_position}
-use Rattle.lash_model.specs.Tables.{Table, letters, ints, IsShape, IsTable, IsDiagram}
+use Rattle.lash_model.specs.Tables.{Table, letters, ints, IsShape, IsTable}
 use Rattle.canonical_laws.specs.Behaviour.{Behaves}
 use Rattle.canonical_laws.specs.Canonical.{IsPathOf, walked, IsNumbered, IsSeparated, IsCanonical, AcceptSameWords}
 use Rattle.canonical_laws.proofs.Diagrams.{same_lists, same_table, no_frac_rows}
 use Rattle.step_tables.specs.Kept.{Kept}
 use Rattle.weak_min.specs.Quotients.{Classed, IsClassed, class_key, quotient}
-use Rattle.weak_min.specs.Filling.{SameUpTo, AreOuts, IsBlankFor, IsFilling}
-use Rattle.weak_min.proofs.ClassRuns.{class_in, go_in, root_in, led_class, class_out, start_in, walked_in, after_class}
+use Rattle.weak_min.specs.Filling.{AreOuts, IsFilling}
+use Rattle.weak_min.proofs.ClassRuns.{go_in, root_in, led_class, class_out, walked_in, after_class}
 
 -- ---- what was explored, and outputs for its positions
 record Made (c : Classed) (k : KeyTable) (outs : List ℕ) : Type 0 where

@@ -10,7 +10,7 @@ use Rattle.graph_laws.specs.Exploring.{KeyTable, list_at}
 use Rattle.lash_model.specs.Tables.{Table, letters, IsTable}
 use Rattle.step_tables.specs.Kept.{Kept, plain, zeros}
 use Rattle.canonical_laws.proofs.Diagrams.{place_within}
-use Rattle.weak_min.specs.Filling.{SameUpTo, AreOuts, IsBlankFor, IsFilling}
+use Rattle.weak_min.specs.Filling.{SameUpTo, IsBlankFor, IsFilling}
 
 -- there are no more sign vectors than letters
 pub few_signs : (base n : ℕ) → 2 ≤ base → base ^ n ≤ 4096 → 2 ^ n ≤ 4096

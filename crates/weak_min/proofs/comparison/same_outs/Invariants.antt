@@ -1,5 +1,4 @@
-use Rattle.std.proofs.Common.{◌≡◌, ◌+◌, ◌*◌, ◌<◌, ℕ, slice_index}
-use Rattle.lash_model.specs.Tables.{letters}
+use Rattle.std.proofs.Common.{◌≡◌, ◌<◌, ℕ, slice_index}
 use Rattle.weak_min.proofs.comparison.same_outs.Given as goal
 
 abbrev pub invariant-loop-state : goal.invariant-loop-state

@@ -1,5 +1,4 @@
-use Rattle.std.proofs.Common.{◌≡◌, ◌+◌, ◌*◌, take}
-use Rattle.lash_model.specs.Tables.{letters}
+use Rattle.std.proofs.Common.{◌≡◌, take}
 use Rattle.weak_min.proofs.copies.outs_of.Given as goal
 
 abbrev pub invariant-loop-state : goal.invariant-loop-state

@@ -1,4 +1,4 @@
-use Rattle.std.proofs.Common.{◌≡◌, ◌+◌, ◌*◌, take}
+use Rattle.std.proofs.Common.{◌≡◌, ◌*◌, take}
 use Rattle.lash_model.specs.Tables.{letters}
 use Rattle.weak_min.proofs.copies.rows_of.Given as goal
 

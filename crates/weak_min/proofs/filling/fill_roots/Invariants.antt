@@ -1,4 +1,3 @@
-use Rattle.std.proofs.Common.{◌+◌, ◌*◌, ◌^◌, length}
 use Rattle.weak_min.specs.Filling.{IsFilling}
 use Rattle.weak_min.proofs.filling.fill_roots.Given as goal
 

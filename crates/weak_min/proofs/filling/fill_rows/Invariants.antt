@@ -1,4 +1,4 @@
-use Rattle.std.proofs.Common.{◌+◌, ◌*◌, ◌^◌, length}
+use Rattle.std.proofs.Common.{◌*◌, ◌^◌}
 use Rattle.weak_min.specs.Filling.{IsFilling}
 use Rattle.weak_min.proofs.filling.fill_rows.Given as goal
 
