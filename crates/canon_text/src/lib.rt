@@ -8,7 +8,7 @@ mod states;
 mod write;
 
 pub use header::Header;
-pub use write::write_table;
+pub use write::{write_table, write_text};
 
 #[cfg(test)]
 mod tests;

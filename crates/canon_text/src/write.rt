@@ -14,9 +14,23 @@ use crate::lines::{put_counts, put_heading};
 use crate::states::{put_frac_lines, put_int_lines};
 use lash_io::{Block, Failed, Sink};
 use step_tables::{Cells, Table};
+use weak_min::Canon;
 
-/// Writes the text of a table under a header. As a condition, the base is the table's, there is a variable for each track, and no
-/// variable is real exactly where the table has no fraction states.
+/// Writes the text of a canonical table under a header. As a condition, the base is the table's, there is a variable for each track,
+/// and no variable is real exactly where the table has no fraction states. It takes no memory.
+///
+/// Fails only at a fault of the sink, which then holds a prefix of the text.
+pub fn write_text<K: Sink>(canon: &Canon, header: &Header, sink: &mut K) -> Result<(), Failed>
+    requires { HeadsTable header.now.base header.now.vars canon.now.table }
+    ensures text { Puts (K.held sink.old) (K.held sink.new) result (text_of header.now.vars canon.now.table) }
+    ensures count { K.faults sink.old ≤ K.faults sink.new }
+    ensures cause { OnErr result (IsFaultCounted (K.faults sink.old) (K.faults sink.new)) }
+{
+    write_table(canon.table(), header, sink)
+}
+
+/// Writes the text of a table, canonical or not, under a header. As a condition, the base is the table's, there is a variable for
+/// each track, and no variable is real exactly where the table has no fraction states.
 ///
 /// Fails only at a fault of the sink, which then holds a prefix of the text.
 pub fn write_table<C: Cells, K: Sink>(
