@@ -1,13 +1,17 @@
 //! The program: it collects the words, takes standard input, and writes to standard output and standard error.
 #![tactic(auto)]
 
+ghost use Rattle.std.specs.Prelude.{◌≡◌, ◌⊎◌, IfErr};
+
 use lash_command::{Status, report, run};
 use lash_io::{StdSink, StdSource};
 use std::process::ExitCode;
 use std::{env, io};
 
 /// The words after the program's name, or how the program ends without them: a word is no text, or there was no memory.
-fn words(rt: &HostRuntime) -> Result<Vec<String>, Status> {
+fn words(rt: &HostRuntime) -> Result<Vec<String>, Status>
+    ensures { IfErr result (λ status. (status ≡ Status.Usage) ⊎ (status ≡ Status.NoMemory)) }
+{
     let all = match env::args(rt) {
         Ok(all) => all,
         Err(error) => {

@@ -26,12 +26,14 @@ at_most number = record { terms = (0, pos 1) ∷ []; constant = pos number }
 abbrev pub x_int : List (List ℕ × Sort)
 x_int = (codes "x", Int) ∷ []
 
--- the automaton that is shown: the canonical one, in base 2 and over one track, that stands for the integers x up to the number
+-- the automaton that is shown: the canonical one, in base 2 and over one track, that stands for the integers x up to the number;
+-- and the number's first table is within the limit
 pub record IsAnswer (number : ℕ) (t : Table) : Type 0 where
   pub stands : StandsFor t (Int ∷ []) (Le (at_most number))
   pub canonical : IsCanonical t
   pub base : t.base ≡ 2
   pub tracks : t.tracks ≡ 1
+  pub light : IsHeavyAtom AtMost (at_most number) 2 1 cells_limit → ⊥
 
 -- the same integers solve both sets
 abbrev pub Agree : Formula → Formula → Type 0

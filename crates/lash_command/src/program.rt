@@ -16,8 +16,8 @@ const LONGEST: usize = 28;
 /// Runs the program: takes the script, answers it to `out`, and writes the line of a refusal to `err`. The answer says how it ended.
 ///
 /// `Unbuilt` comes where there are words, or where the script is of another form than `show (x int): x <= N;` with a number of at
-/// most six digits and at most one LF behind it. `ReadFault` and `WriteFault` come where a fault was counted, `TooLarge` where the
-/// table has more cells than 4,194,304, and `NoMemory` may come at any time before the text.
+/// most six digits and at most one LF behind it. `ReadFault` and `WriteFault` come where a fault was counted, `TooLarge` exactly where
+/// the first table has more cells than 4,194,304, and `NoMemory` may come at any time before the text.
 pub fn run<S: Source, K: Sink, E: Sink>(
     alloc: Global,
     words: &[String],

@@ -4,7 +4,7 @@ ghost use Rattle.std.specs.Prelude.{◌≡◌, ◌<◌, ◌^◌, ◌++◌, ℕ, 
 ghost use Rattle.lash_command.specs.Answers.{Shows, at_most, x_int};
 
 use crate::status::Status;
-use canon_text::{Header, write_table};
+use canon_text::{Header, write_text};
 use digit_codes::Base;
 use formula_core::{Linear, Sort, Vars};
 use lash_io::{Memory, Sink};
@@ -70,7 +70,7 @@ pub fn show<K: Sink>(alloc: Global, number: u32, out: &mut K) -> Status
         Ok(shown) => shown,
         Err(Memory) => return Status::NoMemory,
     };
-    match write_table(shown.table(), &header, out) {
+    match write_text(&shown, &header, out) {
         Ok(()) => Status::Fine,
         Err(_) => Status::WriteFault,
     }
