@@ -1,5 +1,6 @@
 //! The test of letters (own): one walk over the formula, which takes the sets of the free variables from the atoms upwards and stops
-//! at the first that has too many letters. It costs some 12 steps for each node and each term.
+//! at the first that has too many letters. Each place that is put into a set is looked for among at most 12, so that a node costs at
+//! most 144 steps, and a term 12.
 
 ghost use Rattle.std.specs.Prelude.{◌≡◌, ◌≤◌, ◌↔◌, ℕ, Bool, min, Option, IsTrue};
 ghost use Rattle.formula_core.specs.Counts.{count_limit, term_uses};

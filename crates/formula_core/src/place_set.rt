@@ -45,8 +45,7 @@ impl PlaceSet {
 
     /// How many places there are.
     pub fn len(&self) -> u32
-        ensures value { result ≡ length self.now }
-        ensures few { length self.now ≤ 12 }
+        ensures { result ≡ length self.now }
     {
         self.count
     }
