@@ -1,5 +1,5 @@
 -- An answer of the rest of a sequence, or of an alternative, as an answer of the whole.
-use Rattle.std.proofs.Common.{◌≡◌, ◌≢◌, ℕ, ◌-◌, ◌≤◌, List, length, ◌∙◌, ap, Result, Ok, Err, Bool, true, false}
+use Rattle.std.proofs.Common.{◌≡◌, ◌≢◌, ◌-◌, ◌≤◌, List, length, ◌∙◌, ap, Result, Ok, Err, Bool, true, false}
 use Rattle.parser_laws.specs.Parsing.{Res, done, halt, Either, first, other, Pair, starts_with, choice, res_map, seq}
 use Rattle.script_tokens.specs.declared.kind.Kind.{Kind}
 use Rattle.script_tokens.specs.Tokens.{PlacedToken}

@@ -1,5 +1,5 @@
 -- A whole statement, from what is read of a list and what is left of it.
-use Rattle.std.proofs.Common.{◌≡◌, ◌≢◌, ℕ, ◌+◌, ◌-◌, List, [], ◌∷◌, length, map, refl, ◌∙◌, sym, ap, subst, arith}
+use Rattle.std.proofs.Common.{◌≡◌, ◌≢◌, ℕ, ◌-◌, List, [], ◌∷◌, length, map, refl, ◌∙◌, sym, ap, subst, arith}
 use Rattle.parser_laws.specs.Parsing.{Halt, Syntax, Nesting, Res, done, halt, res_map, then_second, at_end, whole_of}
 use Rattle.parser_laws.specs.Places.{IsRead, IsSyntaxAt, IsNestingAt}
 use Rattle.parser_laws.proofs.Good.{not_done, not_halt, same_value, same_rest, same_cause, same_place}

@@ -2,7 +2,7 @@
 use Rattle.std.specs.Prelude.{ℕ, List, map}
 use Rattle.parser_laws.specs.Parsing.{first, other, Pair}
 use Rattle.script_grammar.specs.Formulas.{Form}
-use Rattle.script_grammar.specs.Statements.{header, values, guard, assigns, test, turn, loop, Statement}
+use Rattle.script_grammar.specs.Statements.{header, test, turn, loop, Statement}
 use Rattle.script_syntax.specs.Trees.{Named, DeclarationShape, TreeShape, header_shape, declarations_shape, form_shape, declaration_of, named_of, tree_of}
 use Rattle.script_statements.specs.Values.{RationalShape, values_shape, rational_of}
 use Rattle.script_statements.specs.Loops.{ConstraintShape, AssignmentShape, guard_shape, assignments_shape, constraint_of, assignment_of}

@@ -1,6 +1,6 @@
 -- The values of a test: those of the grammar and those of the program.
 use Rattle.std.specs.Prelude.{ℕ, suc, Bool, List, [], ◌∷◌, ◌++◌}
-use Rattle.parser_laws.specs.Parsing.{Res, Either, first, other, Pair, both, items}
+use Rattle.parser_laws.specs.Parsing.{Res, Either, first, other, Pair, both}
 use Rattle.script_tokens.specs.Tokens.{PlacedToken}
 use Rattle.script_tokens.specs.declared.kind.Kind.TheVariants as kind
 use Rattle.script_grammar.specs.Views.{is, sign}

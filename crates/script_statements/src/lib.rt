@@ -8,6 +8,8 @@ mod assignments;
 mod guards;
 mod reading;
 mod statements;
+#[cfg(test)]
+mod tests;
 mod tree;
 mod values;
 

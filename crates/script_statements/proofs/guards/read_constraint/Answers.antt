@@ -1,6 +1,6 @@
 -- A term, a relation, and a term.
-use Rattle.std.proofs.Common.{◌≡◌, ◌≢◌, ◌-◌, length, refl, List, Ok, Err, rules}
-use Rattle.parser_laws.specs.Parsing.{Pair, both}
+use Rattle.std.proofs.Common.{refl, List, Ok, Err, rules}
+use Rattle.parser_laws.specs.Parsing.{both}
 use Rattle.script_grammar.specs.Terms.{term}
 use Rattle.script_grammar.specs.Statements.{Bound, bound}
 use Rattle.script_syntax.specs.Trees.{SignedShape, term_shape, term_of, without_place}

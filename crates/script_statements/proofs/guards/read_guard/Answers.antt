@@ -1,5 +1,5 @@
 -- `true` is not in hand.
-use Rattle.std.proofs.Common.{◌≡◌, ◌∙◌, sym, map}
+use Rattle.std.proofs.Common.{◌∙◌, sym, map}
 use Rattle.parser_laws.specs.Parsing.{both, items}
 use Rattle.script_tokens.specs.declared.kind.Kind.TheVariants as kind
 use Rattle.script_grammar.specs.Views.{is, sign}

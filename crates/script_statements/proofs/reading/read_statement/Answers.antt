@@ -1,5 +1,5 @@
 -- What the reader of statements answers, and what it leaves.
-use Rattle.std.proofs.Common.{◌≡◌, ◌∙◌, sym, [], IsTrue, Bool, true, false}
+use Rattle.std.proofs.Common.{◌∙◌, sym}
 use Rattle.std.proofs.lemmas.Bool.{false≢true}
 use Rattle.script_tokens.specs.Shape.{placed_of}
 use Rattle.std.specs.Prelude.{map}

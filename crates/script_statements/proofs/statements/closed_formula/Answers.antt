@@ -1,5 +1,5 @@
 -- A formula, and the sign that ends it.
-use Rattle.std.proofs.Common.{◌≡◌, ◌≢◌, ◌-◌, length}
+use Rattle.std.proofs.Common.{◌-◌, length}
 use Rattle.script_tokens.specs.declared.kind.Kind.TheVariants as kind
 use Rattle.script_grammar.specs.Views.{sign}
 use Rattle.script_grammar.specs.Formulas.{room, form_lang}

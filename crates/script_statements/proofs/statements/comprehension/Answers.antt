@@ -1,5 +1,5 @@
 -- The header, and the formula.
-use Rattle.std.proofs.Common.{◌≡◌, ◌≢◌, ◌-◌, List, length, map, Err}
+use Rattle.std.proofs.Common.{List, map, Err}
 use Rattle.parser_laws.specs.Parsing.{both}
 use Rattle.script_grammar.specs.Views.{sign}
 use Rattle.script_grammar.specs.Statements.{header, closed}

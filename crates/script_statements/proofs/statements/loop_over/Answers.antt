@@ -1,5 +1,5 @@
 -- The variables, and what is done at each turn.
-use Rattle.std.proofs.Common.{◌≡◌, ◌≢◌, ◌≤◌, ◌-◌, length, map, arith, Err}
+use Rattle.std.proofs.Common.{map, arith, Err}
 use Rattle.parser_laws.specs.Parsing.{both}
 use Rattle.script_tokens.specs.declared.kind.Kind.TheVariants as kind
 use Rattle.script_grammar.specs.Views.{sign}

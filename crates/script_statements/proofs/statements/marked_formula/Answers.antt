@@ -1,5 +1,4 @@
 -- A keyword or sign, and the rest.
-use Rattle.std.proofs.Common.{◌≡◌, length}
 use Rattle.script_grammar.specs.Statements.{closed}
 use Rattle.script_syntax.specs.Trees.{tree_of}
 use Rattle.script_statements.specs.Statements.{closed_shape}

@@ -1,5 +1,5 @@
 -- The word, and the rest.
-use Rattle.std.proofs.Common.{◌≡◌, ◌≢◌, ◌-◌, length, Err}
+use Rattle.std.proofs.Common.{Err}
 use Rattle.parser_laws.specs.Parsing.{both}
 use Rattle.script_tokens.specs.declared.kind.Kind.TheVariants as kind
 use Rattle.script_grammar.specs.Views.{sign}

@@ -1,5 +1,5 @@
 -- The guard, the word, the assignments, and the sign that ends them.
-use Rattle.std.proofs.Common.{◌≡◌, ◌≢◌, ◌≤◌, ◌-◌, List, length, map, refl, arith, Ok, Err}
+use Rattle.std.proofs.Common.{List, map, refl, arith, Ok, Err}
 use Rattle.parser_laws.specs.Parsing.{both}
 use Rattle.script_tokens.specs.declared.kind.Kind.TheVariants as kind
 use Rattle.script_grammar.specs.Views.{sign}
