@@ -55,11 +55,14 @@ pub struct Loop<'a> {
 #[derive(Debug, Drop)]
 pub enum Statement<'a> {
     Show(Comprehension<'a>),
+    /// A name for a set, and the set.
     Set(NameAt<'a>, Comprehension<'a>),
     Print(NameAt<'a>),
     Solve(NameAt<'a>),
+    /// A set's name, and the values of its variables.
     Test(NameAt<'a>, Vec<Rational>),
     Equal(NameAt<'a>, NameAt<'a>),
+    /// The first set is to be a part of the second.
     Subset(NameAt<'a>, NameAt<'a>),
     Check(Tree<'a>),
     Loop(Loop<'a>),
