@@ -6,10 +6,10 @@ use Rattle.script_tokens.specs.contracts.kind.Kind.{the_type}
 use Rattle.script_tokens.specs.declared.kind.Kind.{Kind}
 use Rattle.script_grammar.proofs.Spellings.{same_kinds, kind_itself}
 use Rattle.script_syntax.specs.Reading.{token_at, view_at}
-use Rattle.parser_laws.specs.Parsing.{Pair, starts_with, seen, seen_in}
+use Rattle.parser_laws.specs.Parsing.{starts_with, seen, seen_in}
 use Rattle.parser_laws.specs.Placed.{placed_view, with_place}
 use Rattle.parser_laws.proofs.Parts.{not_none, same_some}
-use Rattle.script_tokens.specs.Tokens.{Token, Sign, PlacedToken}
+use Rattle.script_tokens.specs.Tokens.{Token, PlacedToken}
 use Rattle.script_grammar.specs.Views.{Adding, adding_view, is_adding, same_kind, place_if, is_kind, place_view, is}
 use Rattle.script_syntax.specs.Trees.{is_minus, minus_of, adding_at}
 

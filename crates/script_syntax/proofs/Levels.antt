@@ -1,5 +1,5 @@
 -- The levels of formulas, by what is kept of their trees.
-use Rattle.std.proofs.Common.{◌≡◌, ℕ, zero, suc, ◌+◌, ◌-◌, ◌≤◌, ◌<◌, List, [], ◌∷◌, length, drop, arith, refl, ◌∙◌, sym, ap, Option, None, Some, Bool, true, false}
+use Rattle.std.proofs.Common.{◌≡◌, ℕ, suc, ◌+◌, ◌-◌, ◌≤◌, ◌<◌, List, [], ◌∷◌, length, drop, arith, refl, ◌∙◌, sym, ap, Option, Some, true, false}
 use Rattle.parser_laws.specs.Parsing.{Halt, Res, done, halt, Either, first, other, Pair, starts_with, res_map, shift, then_second, seq, one, one_of, none, Lang, both, either, perhaps, items, seen_in}
 use Rattle.parser_laws.specs.Placed.{placed_view}
 use Rattle.script_tokens.specs.declared.kind.Kind.{Kind}
@@ -7,10 +7,10 @@ use Rattle.script_tokens.specs.declared.kind.Kind.TheVariants as kind
 use Rattle.script_tokens.specs.Tokens.{PlacedToken}
 use Rattle.script_grammar.specs.Views.{Quantifier, is, is_quantifier, place_view, sign, quantifier, quantifier_view}
 use Rattle.script_grammar.specs.Terms.{atom, declarations}
-use Rattle.script_grammar.specs.Formulas.{Form, Unary, MoreUnits, MoreAnds, And, Or, Imp, Iff, unary_of, more_units_of, and_of, more_ands_of, or_of, imp_of, iff_of, form_of, unary_lang, and_lang, or_lang, imp_lang, iff_lang, form_lang, Levels, not_lang, paren_lang, quant_lang, room}
+use Rattle.script_grammar.specs.Formulas.{Form, Unary, And, Or, Imp, unary_of, more_units_of, and_of, more_ands_of, or_of, imp_of, iff_of, form_of, unary_lang, and_lang, or_lang, imp_lang, iff_lang, form_lang, Levels, not_lang, paren_lang, quant_lang, room}
 use Rattle.script_syntax.specs.Reading.{folded, forgotten, view_at}
 use Rattle.script_syntax.specs.Trees.{TreeShape, Not, Implies, Equivalent, Quantified, DeclarationShape, without_place, declarations_shape, atom_shape, unary_shape, more_units_shape, and_shape, more_ands_shape, or_shape, imp_shape, iff_shape, form_shape, add_and, add_or, units_read, ands_read}
-use Rattle.script_syntax.proofs.InHand.{Held, sign_in_hand, view_held}
+use Rattle.script_syntax.proofs.InHand.{sign_in_hand, view_held}
 use Rattle.script_syntax.proofs.Sequences.{map_twice, seq_read, seq_halts, seq_ok, seq_err, mapped_done, mapped_halt, taken, left_out}
 
 pub sign_read : (k : Kind) (ts v : List PlacedToken) → starts_with (is k) ts ≡ true → v ≡ drop 1 ts → res_map forgotten ((sign k).parse ts) ≡ done tt v

@@ -1,8 +1,7 @@
 -- Loops over lists of items, each behind a token that begins it: what is still to be read, joined to what was read.
-use Rattle.std.proofs.Common.{◌≡◌, ℕ, zero, suc, ◌+◌, ◌-◌, ◌≤◌, ◌<◌, List, [], ◌∷◌, length, arith, refl, ◌∙◌, sym, ap, subst, Option, None, Some}
-use Rattle.std.specs.Prelude.{Bool, true, false}
-use Rattle.std.proofs.lemmas.Bool.{false≢true}
-use Rattle.parser_laws.specs.Parsing.{Halt, Res, done, halt, Either, first, other, Pair, pick, starts_with, res_map, shift, pair_with, then_second, list_of, none, seq, one, one_of, choice, many, seen, seen_in}
+use Rattle.std.proofs.Common.{◌≡◌, ℕ, zero, suc, ◌+◌, ◌-◌, ◌≤◌, ◌<◌, List, ◌∷◌, length, arith, refl, ◌∙◌, ap, Option, Some}
+use Rattle.std.specs.Prelude.{false}
+use Rattle.parser_laws.specs.Parsing.{Halt, Res, done, halt, first, other, Pair, pick, starts_with, res_map, shift, pair_with, then_second, list_of, none, seq, one, one_of, many, seen, seen_in}
 use Rattle.parser_laws.proofs.Good.{not_halt, not_done, same_value, same_rest, same_cause, same_place}
 use Rattle.script_syntax.specs.Reading.{folded, rest_of}
 

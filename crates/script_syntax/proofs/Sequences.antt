@@ -1,11 +1,10 @@
 -- One after the other, by what is kept of the trees.
-use Rattle.std.proofs.Common.{◌≡◌, ◌≢◌, ℕ, ◌+◌, ◌-◌, ◌≤◌, List, length, arith, refl, ◌∙◌, sym, ap, Result, Ok, Err, Bool, true, false}
+use Rattle.std.proofs.Common.{◌≡◌, ℕ, ◌+◌, ◌-◌, ◌≤◌, List, length, arith, refl, ◌∙◌, sym, ap, Result, Ok, Err, Bool, true, false}
 use Rattle.parser_laws.specs.Parsing.{Halt, Res, done, halt, Either, first, other, Pair, pick, starts_with, choice, res_map, shift, pair_with, then_second}
 use Rattle.parser_laws.proofs.Good.{not_halt, not_done, same_value, same_rest, same_cause, same_place}
 use Rattle.script_tokens.specs.Tokens.{PlacedToken}
 use Rattle.script_syntax.specs.Reading.{Agrees, IsMade, cause}
 use Rattle.script_syntax.specs.declared.cursor.Stop.{Stop}
-use Rattle.script_syntax.specs.declared.cursor.Stop.TheVariants.{Memory}
 
 pub map_twice : {T A B C : Type 0} (f : A → B) (g : B → C) (r : Res T A) → res_map g (res_map f r) ≡ res_map (λ a. g (f a)) r
 map_twice f g (done a w) = refl

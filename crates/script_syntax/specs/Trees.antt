@@ -6,7 +6,7 @@ use Rattle.lash_model.specs.Formulas.{Sort}
 use Rattle.formula_core.specs.Variables.{sort_of}
 use Rattle.script_tokens.specs.declared.kind.Kind.TheVariants as kind
 use Rattle.script_grammar.specs.Views.{Adding, Plus, Minus, adding, adding_view, is_adding, Relation, AtMost, Below, AtLeast, Above, Equal, Unequal, Quantifier, Exists, Forall, relation, is, sign}
-use Rattle.script_grammar.specs.Terms.{scaled, part, tail, term, terms, arguments, called, compared, named, unnamed, atom, declaration, declarations}
+use Rattle.script_grammar.specs.Terms.{scaled, part, term, terms, arguments, called, compared, named, unnamed, atom, declaration, declarations}
 use Rattle.script_grammar.specs.Formulas.{Form, Quant, Plain, Iff, OneImp, TwoImps, Imp, OneOr, TwoOrs, Or as GrammarOr, Ands, MoreAnds, NoAnd, OrAnd, And as GrammarAnd, Units, MoreUnits, NoUnit, AndUnit, Unary, Not as GrammarNot, Paren, Simple, Levels, unary_lang, and_lang}
 use Rattle.script_grammar.specs.Statements.{header}
 use Rattle.script_syntax.specs.Reading.{folded, rest_of}

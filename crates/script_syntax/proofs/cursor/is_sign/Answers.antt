@@ -1,5 +1,5 @@
 -- Kinds are compared by what they are.
-use Rattle.std.proofs.Common.{◌≡◌, ◌∙◌, ap, sym}
+use Rattle.std.proofs.Common.{◌∙◌, ap, sym}
 use Rattle.script_tokens.specs.Shape.{token_of}
 use Rattle.script_grammar.specs.Views.{is_kind}
 use Rattle.script_syntax.proofs.InHand.{kinds_agree}

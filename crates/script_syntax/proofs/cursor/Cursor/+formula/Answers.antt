@@ -1,11 +1,11 @@
 -- Each level reads what the grammar says.
-use Rattle.std.proofs.Common.{◌≡◌, ◌≢◌, ◌≤◌, ◌<◌, ◌+◌, ◌-◌, ◌*◌, ℕ, length, map, drop, ap, ◌∙◌, sym, subst, arith, List, ◌∷◌}
-use Rattle.parser_laws.specs.Parsing.{res_map, done}
+use Rattle.std.proofs.Common.{◌-◌, length, map, ap, ◌∙◌, sym, subst, arith, ◌∷◌}
+use Rattle.parser_laws.specs.Parsing.{res_map}
 use Rattle.script_tokens.specs.declared.kind.Kind.TheVariants as kind
-use Rattle.script_grammar.specs.Views.{place_view, quantifier_view, is_quantifier}
+use Rattle.script_grammar.specs.Views.{place_view, quantifier_view}
 use Rattle.script_grammar.specs.Terms.{atom}
 use Rattle.script_grammar.specs.Formulas.{room, form_lang, iff_lang, imp_lang, or_lang, and_lang, unary_lang}
-use Rattle.script_syntax.specs.Reading.{Agrees, cause}
+use Rattle.script_syntax.specs.Reading.{cause}
 use Rattle.script_syntax.specs.Trees.{TreeShape, Implies, Equivalent, and_shape, atom_shape, declaration_of, form_shape, iff_shape, imp_shape, or_shape, ands_read, quantifier_of, quantifier_shown, join_and, join_or, tree_of, unary_shape, units_read}
 use Rattle.script_syntax.proofs.InHand.{sign_in_hand, none_seen}
 use Rattle.script_syntax.proofs.Levels.{and_halts, and_read, or_halts, or_read, pair_halts, pair_alone, pair_both, pair_second_halts, imp_parts, iff_parts, not_read, not_halts, simple_read, group_read, group_halts, group_open, plain_read, quantifier_read, quant_read, quant_uncolon, quant_halts, one_shorter}

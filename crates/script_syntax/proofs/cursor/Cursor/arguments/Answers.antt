@@ -1,4 +1,4 @@
-use Rattle.std.proofs.Common.{◌≡◌, map, ◌∙◌, sym}
+use Rattle.std.proofs.Common.{map, ◌∙◌, sym}
 use Rattle.parser_laws.specs.Parsing.{res_map, none}
 use Rattle.script_grammar.specs.Terms.{terms, arguments, starts_term}
 use Rattle.script_syntax.specs.Trees.{terms_shape, arguments_shape, term_of}

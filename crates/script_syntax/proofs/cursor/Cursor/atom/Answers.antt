@@ -1,5 +1,5 @@
 -- No truth value is in hand.
-use Rattle.std.proofs.Common.{◌≡◌, ◌∙◌, sym}
+use Rattle.std.proofs.Common.{◌∙◌, sym}
 use Rattle.parser_laws.specs.Parsing.{either, res_map}
 use Rattle.script_grammar.specs.Views.{truth, truth_view, is_name, is_truth}
 use Rattle.script_grammar.specs.Terms.{named, unnamed, atom}

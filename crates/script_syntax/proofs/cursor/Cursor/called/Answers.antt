@@ -1,5 +1,5 @@
 -- A sign that opens, and the rest.
-use Rattle.std.proofs.Common.{◌≡◌, length, map}
+use Rattle.std.proofs.Common.{length, map}
 use Rattle.parser_laws.specs.Parsing.{both, res_map}
 use Rattle.script_tokens.specs.declared.kind.Kind.TheVariants as kind
 use Rattle.script_grammar.specs.Views.{sign}

@@ -1,5 +1,5 @@
 -- A name in hand tells the two apart.
-use Rattle.std.proofs.Common.{◌≡◌, ◌∙◌, sym}
+use Rattle.std.proofs.Common.{◌∙◌, sym}
 use Rattle.parser_laws.specs.Parsing.{either, res_map}
 use Rattle.script_grammar.specs.Views.{is_name}
 use Rattle.script_grammar.specs.Terms.{named, unnamed}

@@ -1,5 +1,5 @@
 -- Arguments, and the sign that closes them.
-use Rattle.std.proofs.Common.{◌≡◌, ◌≢◌, ℕ, List, ◌-◌, length, map}
+use Rattle.std.proofs.Common.{List, ◌-◌, length, map}
 use Rattle.script_tokens.specs.declared.kind.Kind.TheVariants as kind
 use Rattle.script_grammar.specs.Views.{sign}
 use Rattle.script_grammar.specs.Terms.{arguments}

@@ -1,5 +1,5 @@
 -- Declarations, and the sign that closes them.
-use Rattle.std.proofs.Common.{◌≡◌, ◌≢◌, ℕ, List, ◌-◌, length, map}
+use Rattle.std.proofs.Common.{List, ◌-◌, length, map}
 use Rattle.parser_laws.specs.Parsing.{perhaps}
 use Rattle.script_tokens.specs.declared.kind.Kind.TheVariants as kind
 use Rattle.script_grammar.specs.Views.{sign, is_name}

@@ -1,6 +1,6 @@
 -- The parts behind the first, and then the relation and the right side.
-use Rattle.std.proofs.Common.{◌≡◌, ◌∙◌, ap, sym, List, [], ◌∷◌, ◌++◌, length, map}
-use Rattle.parser_laws.specs.Parsing.{both, res_map, done}
+use Rattle.std.proofs.Common.{◌∙◌, ap, sym, [], ◌∷◌, ◌++◌, length, map}
+use Rattle.parser_laws.specs.Parsing.{both, res_map}
 use Rattle.script_grammar.specs.Views.{relation}
 use Rattle.script_grammar.specs.Terms.{tail, term, compared}
 use Rattle.script_syntax.specs.Reading.{folded}

@@ -1,4 +1,4 @@
-use Rattle.std.proofs.Common.{◌≡◌, ◌∙◌}
+use Rattle.std.proofs.Common.{◌∙◌}
 use Rattle.script_tokens.specs.Shape.{placed_of}
 use Rattle.script_syntax.proofs.InHand.{at_sign}
 use Rattle.script_syntax.proofs.cursor.Cursor.is_at.Goals as goal

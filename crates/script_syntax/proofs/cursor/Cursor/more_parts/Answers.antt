@@ -1,13 +1,12 @@
 -- A part more at each turn.
-use Rattle.std.proofs.Common.{◌≡◌, ◌≢◌, ℕ, ◌-◌, List, [], ◌∷◌, ◌++◌, length, map, drop, ap, ◌∙◌, sym, subst, Bool}
+use Rattle.std.proofs.Common.{◌-◌, List, [], ◌∷◌, ◌++◌, map, ap, ◌∙◌, sym, subst}
 use Rattle.std.proofs.lemmas.List.{map-append}
-use Rattle.parser_laws.specs.Parsing.{done, halt}
 use Rattle.parser_laws.specs.Placed.{placed_view}
 use Rattle.script_grammar.specs.Views.{adding_view}
 use Rattle.script_grammar.specs.Terms.{part}
 use Rattle.script_syntax.specs.Reading.{cause}
-use Rattle.script_syntax.specs.Trees.{part_shape, part_of, join_part, signed_of, SignedShape, is_minus}
-use Rattle.script_syntax.proofs.InHand.{Held, sign_held, no_sign_held}
+use Rattle.script_syntax.specs.Trees.{part_shape, part_of, join_part, signed_of, SignedShape}
+use Rattle.script_syntax.proofs.InHand.{sign_held, no_sign_held}
 use Rattle.script_syntax.proofs.Loops.{Kept, kept_more, kept_ends, kept_halts}
 use Rattle.script_syntax.proofs.cursor.Cursor.more_parts.Goals as goal
 

@@ -1,5 +1,5 @@
 -- A term more at each turn.
-use Rattle.std.proofs.Common.{◌≡◌, ◌≢◌, ℕ, ◌-◌, List, [], ◌∷◌, ◌++◌, length, map, drop, ap, ◌∙◌, sym, subst}
+use Rattle.std.proofs.Common.{◌-◌, List, [], ◌∷◌, map, ap, ◌∙◌, sym, subst}
 use Rattle.std.proofs.lemmas.List.{map-append}
 use Rattle.script_tokens.specs.declared.kind.Kind.TheVariants as kind
 use Rattle.script_grammar.specs.Views.{place_view}

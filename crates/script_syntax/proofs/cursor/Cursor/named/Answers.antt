@@ -1,6 +1,6 @@
 -- A name, and the rest.
-use Rattle.std.proofs.Common.{◌≡◌, ◌∙◌, ap, length}
-use Rattle.parser_laws.specs.Parsing.{both, either, res_map}
+use Rattle.std.proofs.Common.{ap, length}
+use Rattle.parser_laws.specs.Parsing.{either, res_map}
 use Rattle.script_tokens.specs.declared.kind.Kind.TheVariants as kind
 use Rattle.script_grammar.specs.Views.{is, name}
 use Rattle.script_grammar.specs.Terms.{called, compared, named}

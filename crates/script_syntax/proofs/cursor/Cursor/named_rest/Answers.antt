@@ -1,6 +1,6 @@
 -- The sign that opens a list of arguments tells a call from a comparison.
-use Rattle.std.proofs.Common.{◌≡◌, ◌≢◌, ◌-◌, ◌∙◌, ap, sym, false, length, map}
-use Rattle.parser_laws.specs.Parsing.{both, either, res_map, first, other}
+use Rattle.std.proofs.Common.{◌-◌, ◌∙◌, sym, false, length, map}
+use Rattle.parser_laws.specs.Parsing.{either, res_map}
 use Rattle.script_tokens.specs.declared.kind.Kind.TheVariants as kind
 use Rattle.script_grammar.specs.Views.{is}
 use Rattle.script_grammar.specs.Terms.{called, compared}

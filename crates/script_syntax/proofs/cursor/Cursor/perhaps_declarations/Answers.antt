@@ -1,4 +1,4 @@
-use Rattle.std.proofs.Common.{◌≡◌, map, ◌∙◌, sym}
+use Rattle.std.proofs.Common.{map, ◌∙◌, sym}
 use Rattle.parser_laws.specs.Parsing.{res_map, none, perhaps}
 use Rattle.script_grammar.specs.Terms.{declarations}
 use Rattle.script_grammar.specs.Views.{is_name}

@@ -1,5 +1,5 @@
 -- The tokens behind the one in hand.
-use Rattle.std.proofs.Common.{◌≡◌, ◌∙◌, sym, ap, drop, map, ℕ, ◌+◌, suc, arith}
+use Rattle.std.proofs.Common.{◌≡◌, ◌∙◌, ap, drop, map, ◌+◌, suc, arith}
 use Rattle.script_tokens.specs.Shape.{placed_of}
 use Rattle.script_syntax.proofs.Steps.{next_map}
 use Rattle.script_syntax.proofs.cursor.Cursor.step.Goals as goal

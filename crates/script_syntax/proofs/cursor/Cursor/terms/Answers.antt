@@ -1,5 +1,5 @@
 -- A term, and the terms behind it.
-use Rattle.std.proofs.Common.{◌≡◌, ◌≢◌, ℕ, ◌-◌, List, [], ◌∷◌, ◌++◌, length, map, ap, ◌∙◌, sym}
+use Rattle.std.proofs.Common.{◌-◌, [], ◌∷◌, ◌++◌, length, map, ap, ◌∙◌, sym}
 use Rattle.parser_laws.specs.Parsing.{both, items, res_map, shift}
 use Rattle.script_tokens.specs.declared.kind.Kind.TheVariants as kind
 use Rattle.script_grammar.specs.Views.{is, sign}

@@ -1,5 +1,5 @@
 -- The first part, and the rest of the comparison.
-use Rattle.std.proofs.Common.{◌≡◌, length}
+use Rattle.std.proofs.Common.{length}
 use Rattle.parser_laws.specs.Parsing.{both, either, res_map}
 use Rattle.script_tokens.specs.declared.kind.Kind.TheVariants as kind
 use Rattle.script_grammar.specs.Views.{is, sign}
