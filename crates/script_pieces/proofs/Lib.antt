@@ -1,0 +1,4 @@
+pub mod Cutting
+pub mod Passing
+pub mod Slices
+pub mod Opening

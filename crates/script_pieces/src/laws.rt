@@ -1,0 +1,24 @@
+//! Laws of pieces.
+
+ghost use Rattle.std.specs.Prelude.{◌≡◌, ◌<◌, ◌≤◌, ℕ, Bool, false, List, [], ◌++◌, ◌∷◌, length, take, drop, Some, None};
+ghost use Rattle.script_pieces.specs.Cuts.{statement_length, cut};
+ghost use Rattle.script_pieces.specs.Limits.{IsWithin, IsLongStatement, IsLongScript};
+
+/// The first statement of bytes stays so whatever follows them, and one that ends only in what follows is longer than they are. Bytes
+/// are cut into their first statement, then the statements of what follows it.
+pub fn cuts_in_order()
+    ensures stable { (c : Bool) (x y : List ℕ) (n : ℕ) → statement_length c x ≡ Some n → statement_length c (x ++ y) ≡ Some n }
+    ensures later { (c : Bool) (x y : List ℕ) (n : ℕ) → statement_length c x ≡ None → statement_length c (x ++ y) ≡ Some n → length x < n }
+    ensures within { (c : Bool) (x : List ℕ) (n : ℕ) → statement_length c x ≡ Some n → (0 < n) × (n ≤ length x) }
+    ensures first { (x : List ℕ) (n : ℕ) → statement_length false x ≡ Some n → cut x ≡ record { statements = take n x ∷ (cut (drop n x)).statements; rest = (cut (drop n x)).rest } }
+    ensures last { (x : List ℕ) → statement_length false x ≡ None → cut x ≡ record { statements = []; rest = x } }
+{}
+
+/// A piece within both limits, one that passes the limit of a statement first, and one that passes the limit of the script first: each
+/// is one of the three, and none is two.
+pub fn refusals_exclude_each_other()
+    ensures statement { (given size : ℕ) → IsLongStatement given size → IsWithin given size → ⊥ }
+    ensures script { (given size : ℕ) → IsLongScript given size → IsWithin given size → ⊥ }
+    ensures both { (given size : ℕ) → IsLongStatement given size → IsLongScript given size → ⊥ }
+    ensures neither { (given size : ℕ) → (IsLongStatement given size → ⊥) → (IsLongScript given size → ⊥) → IsWithin given size }
+{}
