@@ -2,3 +2,4 @@ pub mod Cutting
 pub mod Passing
 pub mod Slices
 pub mod Opening
+pub mod Fetching

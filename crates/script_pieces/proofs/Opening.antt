@@ -6,7 +6,7 @@ use Rattle.std.specs.Io.KnownBytes.{prepend_known}
 use Rattle.script_pieces.specs.Cuts.{statement_length, piece_length}
 use Rattle.script_pieces.specs.Limits.{IsWithin, IsLongStatement, IsLongScript, IsRefused}
 use Rattle.script_pieces.specs.Taking.{Progress, IsOpen, Takes, GrewOpen, IsNeeded}
-use Rattle.script_pieces.specs.Answers.{IsTooLong}
+use Rattle.script_pieces.specs.Answers.{IsTooLong, IsFailure}
 use Rattle.script_pieces.specs.declared.errors.PieceError.{PieceError}
 use Rattle.script_pieces.specs.declared.errors.PieceError.TheVariants.{Read, StatementBytes, ScriptBytes}
 use Rattle.script_pieces.proofs.Cutting.{stable, piece_more}
@@ -34,3 +34,9 @@ too_long e p left h = record { held = h; ahead = by left }
     by : (known : Option (List ℕ)) → IfSome (prepend_known p.held known) (λ bytes. IsRefused e p.given (piece_length bytes))
     by None = tt
     by (Some xs) = refused_longer e p.given (piece_length p.held) (piece_length (p.held ++ xs)) (piece_more p.held xs) h
+
+-- the cause of a refusal for a piece's length
+pub refusal : (e : PieceError) (p : Progress) (left : Option (List ℕ)) (before after : ℕ) → IsRefused e p.given (piece_length p.held) → IsFailure e p left before after
+refusal Read p left before after h = absurd h
+refusal StatementBytes p left before after h = too_long StatementBytes p left h
+refusal ScriptBytes p left before after h = too_long ScriptBytes p left h
