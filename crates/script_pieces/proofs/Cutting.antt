@@ -5,7 +5,7 @@ use Rattle.std.specs.Option.{option_map}
 use Rattle.std.proofs.lemmas.List.{length-append, length-drop}
 use Rattle.script_pieces.specs.Cuts.{commented, statement_length, piece_length, Cut, cut_behind, cut_at_most, cut}
 
-abbrev next : Bool → Option ℕ → Option ℕ
+abbrev pub next : Bool → Option ℕ → Option ℕ
 next ends o = if ends then Some 1 else option_map (λ n. n + 1) o
 
 next_stable : (ends : Bool) (o p : Option ℕ) (n : ℕ) → ((m : ℕ) → o ≡ Some m → p ≡ Some m) → next ends o ≡ Some n → next ends p ≡ Some n

@@ -3,3 +3,4 @@ pub mod Passing
 pub mod Slices
 pub mod Opening
 pub mod Fetching
+pub mod OneCut

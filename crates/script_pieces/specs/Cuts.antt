@@ -2,6 +2,7 @@
 -- (10) or to the end, and may hold any bytes. Own.
 use Rattle.std.specs.Prelude.{ℕ, zero, suc, ◌≡◌, ◌+◌, ◌==◌, Bool, true, false, not, ◌&&◌, if◌then◌else◌, List, [], ◌∷◌, ◌++◌, length, take, drop, Option, Some, None, unwrap_or}
 use Rattle.std.specs.Option.{option_map}
+use Rattle.std.specs.List.{concat, AllByRecursion}
 
 -- whether a comment goes on behind a byte that stands in a comment, or does not
 abbrev pub commented : Bool → ℕ → Bool
@@ -36,3 +37,9 @@ cut_at_most (suc k) bytes = cut_behind (cut_at_most k) (statement_length false b
 -- all the whole statements of the bytes, in order, and the rest, which holds none
 abbrev pub cut : List ℕ → Cut
 cut bytes = cut_at_most (length bytes) bytes
+
+-- the bytes are these statements, one behind another and each whole, and then the rest, which holds no whole one
+pub record IsCut (bytes : List ℕ) (c : Cut) : Type 0 where
+  pub joined : bytes ≡ concat c.statements ++ c.rest
+  pub whole : AllByRecursion (λ s. statement_length false s ≡ Some (length s)) c.statements
+  pub unended : statement_length false c.rest ≡ None

@@ -11,7 +11,7 @@ mod window;
 
 pub use answers::Ahead;
 pub use errors::PieceError;
-pub use laws::{cuts_in_order, refusals_exclude_each_other};
+pub use laws::{bytes_have_one_cut, cuts_go_on, cuts_in_order, refusals_exclude_each_other};
 pub use pieces::Pieces;
 
 #[cfg(test)]
