@@ -18,7 +18,7 @@ alone c [] n h = absurd (cc)
 alone c (b ∷ bs) zero h = absurd (omega (arith, (within c (b ∷ bs) zero h).0))
 alone c (b ∷ bs) (suc n) h =
     let rec = λ (m : ℕ) (e : statement_length (commented c b) bs ≡ Some m) (f : suc m ≡ suc n). (let g : m ≡ n = omega (arith, f) in
-        subst (λ (i : ℕ). statement_length (commented c b) (take i bs) ≡ Some m) g (alone (commented c b) bs m e)) in
+    subst (λ (i : ℕ). statement_length (commented c b) (take i bs) ≡ Some m) g (alone (commented c b) bs m e)) in
     next_alone (not c && (b == 59)) (statement_length (commented c b) bs) (statement_length (commented c b) (take n bs)) (suc n) rec h
 
 abbrev AreWhole : List (List ℕ) → Type 0

@@ -1,8 +1,8 @@
 //! Laws of pieces.
 
-ghost use Rattle.std.specs.Prelude.{◌≡◌, ◌<◌, ◌≤◌, ℕ, Bool, false, List, [], ◌++◌, ◌∷◌, length, take, drop, Some, None};
+ghost use Rattle.std.specs.Prelude.{◌≡◌, ◌+◌, ◌<◌, ◌≤◌, ℕ, Bool, false, List, [], ◌++◌, ◌∷◌, length, take, drop, Some, None};
 ghost use Rattle.script_pieces.specs.Cuts.{statement_length, Cut, IsCut, cut};
-ghost use Rattle.script_pieces.specs.Limits.{IsWithin, IsLongStatement, IsLongScript};
+ghost use Rattle.script_pieces.specs.Limits.{script_bytes_limit, IsWithin, IsLongStatement, IsLongScript};
 
 /// The first statement of bytes stays so whatever follows them, and one that ends only in what follows is longer than they are. Bytes
 /// are cut into their first statement, then the statements of what follows it.
@@ -31,5 +31,6 @@ pub fn refusals_exclude_each_other()
     ensures statement { (given size : ℕ) → IsLongStatement given size → IsWithin given size → ⊥ }
     ensures script { (given size : ℕ) → IsLongScript given size → IsWithin given size → ⊥ }
     ensures both { (given size : ℕ) → IsLongStatement given size → IsLongScript given size → ⊥ }
+    ensures later { (given size : ℕ) → script_bytes_limit + 1 ≤ given + size → (IsLongStatement given size → ⊥) → IsLongScript given size }
     ensures neither { (given size : ℕ) → (IsLongStatement given size → ⊥) → (IsLongScript given size → ⊥) → IsWithin given size }
 {}

@@ -8,7 +8,7 @@ ghost use Rattle.std.specs.Prelude.{◌≡◌, ◌≤◌, ◌<◌, ◌+◌, ℕ,
 ghost use Rattle.std.specs.Io.KnownBytes.{IsAtEnd};
 ghost use Rattle.lash_model.specs.Faults.{IsFaultCounted};
 ghost use Rattle.script_pieces.specs.Cuts.{statement_length, piece_length};
-ghost use Rattle.script_pieces.specs.Limits.{IsRefused};
+ghost use Rattle.script_pieces.specs.Limits.{script_bytes_limit, IsRefused};
 ghost use Rattle.script_pieces.specs.Taking.{Progress, IsOpen, Takes, IsNeeded};
 ghost use Rattle.script_pieces.specs.Answers.{IsAhead, IsFailure, IsStatement};
 
@@ -95,10 +95,10 @@ impl Pieces {
         ensures kept { Takes self.old self.new (S.left source.old) (S.left source.new) }
         ensures ahead { IfOk result (λ ahead. IsAhead ahead self.new (S.left source.new)) }
         ensures cause { IfErr result (λ e. IsFailure e self.new (S.left source.new) (S.faults source.old) (S.faults source.new)) }
-        // Bytes are taken only behind bytes that do not tell how their piece ends.
+        // Bytes are taken only behind bytes that do not tell how their piece ends; where those held tell it, the source is not read.
         ensures needed { IsNeeded self.old self.new }
         ensures idle { (IsOpen self.old → ⊥) → source.new ≡ source.old }
-        ensures most { self.new.given + length self.new.held ≤ 16777217 }
+        ensures most { self.new.given + length self.new.held ≤ script_bytes_limit + 1 }
         ensures count { S.faults source.old ≤ S.faults source.new }
     {
         'reads: loop {
@@ -119,7 +119,7 @@ impl Pieces {
     // must be taken.
     fn told(&mut self) -> Option<Result<usize, PieceError>>
         ensures kept { self.new ≡ self.old }
-        ensures most { self.new.given + length self.new.held ≤ 16777217 }
+        ensures most { self.new.given + length self.new.held ≤ script_bytes_limit + 1 }
         ensures told { MatchOption result (IsOpen self.new) (λ r. MatchResult r (IsStatement self.new) (λ e. IsRefused e self.new.given (piece_length self.new.held))) }
     {
         let found = self.find();
@@ -153,7 +153,7 @@ impl Pieces {
         ensures kept { Takes self.old self.new (S.left source.old) (S.left source.new) }
         ensures taken { IfOk result (λ count. length self.new.held ≡ length self.old.held + count) }
         ensures ended { IfOk result (λ count. count ≡ 0 → (self.new ≡ self.old) × IsAtEnd (S.left source.new)) }
-        ensures most { self.new.given + length self.new.held ≤ 16777217 }
+        ensures most { self.new.given + length self.new.held ≤ script_bytes_limit + 1 }
         ensures failed { OnErr result (self.new ≡ self.old) }
         ensures count { S.faults source.old ≤ S.faults source.new }
         ensures cause { OnErr result (IsFaultCounted (S.faults source.old) (S.faults source.new)) }

@@ -77,7 +77,11 @@ impl Window {
     }
 
     /// One read of at most so many bytes, at least one, behind those held. 0 says that no byte is left.
-    pub(crate) fn read_from<S: Source>(&mut self, source: &mut S, most: usize) -> Result<usize, Failed>
+    pub(crate) fn read_from<S: Source>(
+        &mut self,
+        source: &mut S,
+        most: usize,
+    ) -> Result<usize, Failed>
         requires few { length (items self.old) ≤ 65536 }
         requires some { 0 < most }
         ensures bytes { Fills (items self.old) (items self.new) (S.left source.old) (S.left source.new) result most }

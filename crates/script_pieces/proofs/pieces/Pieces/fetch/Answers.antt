@@ -19,7 +19,7 @@ pub reads-preserved : goal.reads-preserved
 reads-preserved g c =
     let now_open : IsOpen c.reads.self = subst IsOpen c.told.ensures.kept c.in-None.ensures.told in
     let more : Takes c.reads.self c.take_more.new.self (g.S.Source.left c.reads.source) (g.S.Source.left c.take_more.new.source) =
-        subst (λ (p : Progress). Takes p c.take_more.new.self (g.S.Source.left c.reads.source) (g.S.Source.left c.take_more.new.source)) c.told.ensures.kept c.take_more.ensures.kept in
+    subst (λ (p : Progress). Takes p c.take_more.new.self (g.S.Source.left c.reads.source) (g.S.Source.left c.take_more.new.source)) c.told.ensures.kept c.take_more.ensures.kept in
     record {
       kept = takes_then c.args.self.now c.reads.self c.take_more.new.self _ _ _ c.reads.invariant.kept more;
       needed = inr (needed_then c.args.self.now c.reads.self c.take_more.new.self _ _ _ c.reads.invariant.kept now_open more);

@@ -36,5 +36,6 @@ returns-clause-length c =
       ended = c.pass_over-found.ensures.end;
     } in
     elim c.if-passed-len.branch [
-      then-passed-len w ↦ w.result-is ∙ found_on p.given (items p.window) p.scanned found.passed p.in_comment found.in_comment (rest_of held p.scanned) went (omega arith)
-    | else-passed-len w ↦ w.result-is ∙ none_on p.given (items p.window) p.scanned found.passed p.in_comment found.in_comment (rest_of held p.scanned) went (omega arith) ]
+      | then-passed-len w ↦ w.result-is ∙ found_on p.given (items p.window) p.scanned found.passed p.in_comment found.in_comment (rest_of held p.scanned) went (omega arith)
+      | else-passed-len w ↦ w.result-is ∙ none_on p.given (items p.window) p.scanned found.passed p.in_comment found.in_comment (rest_of held p.scanned) went (omega arith)
+    ]

@@ -18,9 +18,11 @@ returns-in-Ok-clause-bytes g c =
     let all : length old ≡ 131072 = ap length value ∙ w.size in
     let written : length (put_mid w.end room old read) ≡ w.bytes.len = length_written w.end room old read (omega arith) (omega arith) ∙ size in
     let is : (with_items w.bytes (put_mid w.end room old read)).items ≡ put_mid w.end room old read = with_items_is w.bytes (put_mid w.end room old read) written in
-    let before : slice_range old w.start w.end ≡ items c.args.self.now = ap (λ (xs : List ℕ). slice_range xs w.start w.end) value ∙ c.make_room.ensures.items in
-    (subst (λ (zs : List ℕ). Fill (items c.args.self.now) (slice_range zs w.start (w.end + c.in-Ok.count)) (g.S.Source.left c.args.source.now) (g.S.Source.left c.read.new.self) c.in-Ok.count) (sym is)
-        (filled (items c.args.self.now) old read w.start w.end room c.in-Ok.count _ _ before w.ordered (omega arith) c.in-Ok.ensures.within (omega arith) c.in-Ok.ensures.bytes), omega (arith, c.in-Ok.ensures.within))
+    let before : slice_range old w.start w.end ≡ items c.args.self.now = ap (λ (xs : List ℕ). slice_range xs w.start w.end) value ∙ c.make_room.ensures.items in (
+      subst (λ (zs : List ℕ). Fill (items c.args.self.now) (slice_range zs w.start (w.end + c.in-Ok.count)) (g.S.Source.left c.args.source.now) (g.S.Source.left c.read.new.self) c.in-Ok.count) (sym is)
+          (filled (items c.args.self.now) old read w.start w.end room c.in-Ok.count _ _ before w.ordered (omega arith) c.in-Ok.ensures.within (omega arith) c.in-Ok.ensures.bytes),
+      omega (arith, c.in-Ok.ensures.within),
+    )
 
 pub returns-in-Err-clause-bytes : goal.returns-in-Err-clause-bytes
 returns-in-Err-clause-bytes g c =
