@@ -1,11 +1,10 @@
 -- Bytes that do not tell how their piece ends, and pieces that are refused.
-use Rattle.std.proofs.Common.{◌≡◌, ℕ, ◌+◌, ◌<◌, ◌≤◌, false, List, [], ◌++◌, length, refl, sym, ap, subst, ◌∙◌, arith, Option, Some, None, append_assoc, IfSome}
-use Rattle.std.specs.Prelude.{◌⊎◌}
-use Rattle.std.proofs.lemmas.List.{length-append, append-nil}
+use Rattle.std.proofs.Common.{◌≡◌, ℕ, ◌≤◌, false, List, ◌++◌, refl, arith, Option, Some, None, IfSome}
+use Rattle.std.proofs.lemmas.List.{length-append}
 use Rattle.std.specs.Io.KnownBytes.{prepend_known}
 use Rattle.script_pieces.specs.Cuts.{statement_length, piece_length}
-use Rattle.script_pieces.specs.Limits.{IsWithin, IsLongStatement, IsLongScript, IsRefused}
-use Rattle.script_pieces.specs.Taking.{Progress, IsOpen, Takes, GrewOpen, IsNeeded}
+use Rattle.script_pieces.specs.Limits.{IsRefused}
+use Rattle.script_pieces.specs.Taking.{Progress, IsOpen}
 use Rattle.script_pieces.specs.Answers.{IsTooLong, IsFailure}
 use Rattle.script_pieces.specs.declared.errors.PieceError.{PieceError}
 use Rattle.script_pieces.specs.declared.errors.PieceError.TheVariants.{Read, StatementBytes, ScriptBytes}

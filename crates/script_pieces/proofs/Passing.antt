@@ -1,11 +1,11 @@
 -- How the search for the end of a statement goes on.
-use Rattle.std.proofs.Common.{◌≡◌, ℕ, zero, suc, ◌+◌, ◌-◌, ◌<◌, ◌≤◌, Bool, true, false, not, ◌&&◌, ◌==◌, List, [], ◌∷◌, ◌++◌, length, take, drop, get_or, refl, sym, ap, subst, ◌∙◌, arith, append_assoc, Option, Some, None}
+use Rattle.std.proofs.Common.{◌≡◌, ℕ, ◌+◌, ◌-◌, ◌<◌, ◌≤◌, Bool, false, not, ◌&&◌, ◌==◌, List, [], ◌∷◌, ◌++◌, length, take, drop, get_or, refl, sym, ap, subst, ◌∙◌, arith, append_assoc, Option, Some, None}
 use Rattle.std.specs.Prelude.{if◌then◌else◌}
 use Rattle.std.specs.Option.{option_map}
 use Rattle.std.proofs.lemmas.List.{length-append, length-drop, length-take-le, take_more, take_all, append-nil, take-append-drop, drop_more, get_or-drop}
 use lib.Seq.{take-add}
 use Rattle.script_pieces.specs.Cuts.{commented, statement_length}
-use Rattle.script_pieces.specs.Searching.{Passes, IsSearched, IsKept}
+use Rattle.script_pieces.specs.Searching.{Passes, IsKept}
 
 behind_none : (o : Option ℕ) → o ≡ option_map (λ n. 0 + n) o
 behind_none None = refl

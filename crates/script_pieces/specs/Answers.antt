@@ -1,5 +1,5 @@
 -- What the reader of pieces answers, and what each answer says of the bytes ahead. Own.
-use Rattle.std.specs.Prelude.{ℕ, ◌≡◌, false, List, Option, Some, IfSome}
+use Rattle.std.specs.Prelude.{ℕ, ◌≡◌, ◌<◌, ◌≤◌, false, List, length, Option, Some, IfSome}
 use Rattle.std.specs.Io.KnownBytes.{prepend_known, IsAtEnd}
 use Rattle.lash_model.specs.Faults.{IsFaultCounted}
 use Rattle.script_pieces.specs.Cuts.{statement_length, piece_length}
@@ -13,6 +13,8 @@ use Rattle.script_pieces.specs.declared.errors.PieceError.TheVariants.{Read, Sta
 -- the bytes held begin with a whole statement of so many bytes, within the limits
 pub record IsStatement (p : Progress) (size : ℕ) : Type 0 where
   pub whole : statement_length false p.held ≡ Some size
+  pub some : 0 < size
+  pub inside : size ≤ length p.held
   pub within : IsWithin p.given size
 
 -- the bytes held are all that is left, hold no whole statement, and keep within the limits

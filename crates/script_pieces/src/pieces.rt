@@ -137,7 +137,7 @@ impl Pieces {
     fn find(&mut self) -> Option<usize>
         ensures kept { self.new ≡ self.old }
         ensures length { result ≡ statement_length false self.new.held }
-        ensures within { IfSome result (λ size. size ≤ length self.new.held) }
+        ensures within { IfSome result (λ size. (0 < size) × (size ≤ length self.new.held)) }
     {
         let held = self.window.held();
         let found = pass_over(&held[self.scanned..], self.in_comment);

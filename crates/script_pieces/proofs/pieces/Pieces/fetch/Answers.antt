@@ -1,8 +1,5 @@
-use Rattle.std.proofs.Common.{◌≡◌, ◌≤◌, subst, rules, inr}
-use Rattle.std.specs.Prelude.{◌⊎◌}
-use Rattle.script_pieces.specs.Cuts.{piece_length}
-use Rattle.script_pieces.specs.Limits.{IsRefused}
-use Rattle.script_pieces.specs.Taking.{Progress, IsOpen, Takes, IsNeeded}
+use Rattle.std.proofs.Common.{subst, rules, inr}
+use Rattle.script_pieces.specs.Taking.{Progress, IsOpen, Takes}
 use Rattle.script_pieces.proofs.Opening.{refusal}
 use Rattle.script_pieces.proofs.Fetching.{takes_then, needed_then, open_first}
 use Rattle.script_pieces.proofs.pieces.Pieces.fetch.Goals as goal

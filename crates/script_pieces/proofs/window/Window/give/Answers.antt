@@ -1,5 +1,5 @@
-use Rattle.std.proofs.Common.{arith, ◌≤◌, ◌+◌, ◌-◌, length, take, drop}
-use Rattle.std.proofs.lemmas.List.{length-take, length-drop}
+use Rattle.std.proofs.Common.{arith, ◌-◌, drop}
+use Rattle.std.proofs.lemmas.List.{length-take}
 use Rattle.script_pieces.proofs.Slices.{given}
 use Rattle.script_pieces.proofs.window.Window.give.Goals as goal
 
