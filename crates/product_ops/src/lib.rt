@@ -11,7 +11,7 @@ mod reading;
 mod synchronous;
 mod track_map;
 
-pub use laws::{heavy_or_pairs, picked_values_are_read};
+pub use laws::{heavy_or_pairs, operands_read_words};
 pub use negation::complement;
 pub use operation::Op;
 pub use synchronous::product;

@@ -10,6 +10,9 @@ use std::alloc::Global;
 use std::marker::Model;
 use step_tables::{Cells, Key, Machine, Table};
 
+/// The entries of a pair's key, which are its weight.
+const ENTRIES: u64 = 2;
+
 /// Two diagrams of one base, each with the tracks that it reads of the result.
 #[derive(Drop)]
 pub struct Pairs<'a, A: Cells, B: Cells> {
@@ -99,6 +102,6 @@ impl<A: Cells, B: Cells> Machine for Pairs<'_, A, B> {
     }
 
     fn weight(&self, _key: &Key) -> u64 {
-        2
+        ENTRIES
     }
 }

@@ -8,7 +8,7 @@ ghost use Rattle.lash_model.specs.Standing.{StandsForWhole};
 ghost use Rattle.lash_model.specs.Tables.{IsTable, IsDiagram};
 ghost use Rattle.product_ops.specs.Filling.{IsFilling};
 ghost use Rattle.product_ops.specs.Operations.{joined, set_of};
-ghost use Rattle.product_ops.specs.Pairs.{pairs, left_operand, right_operand, out_by, AreOperands, IsPairTable, AcceptsBoth, ReadsPicked};
+ghost use Rattle.product_ops.specs.Pairs.{pairs, left_operand, right_operand, out_by, AreOperands, IsPairTable, AcceptsBoth};
 
 use crate::filling::{Layout, lay_out};
 use crate::outputs::{Plan, fill_outs};
@@ -70,8 +70,6 @@ pub fn product<A: Cells, B: Cells>(
     ensures base { IfOk result (λ t. t.table.base ≡ left.now.table.base) }
     ensures tracks { IfOk result (λ t. t.table.tracks ≡ map.now.tracks) }
     ensures words { IfOk result (λ t. AcceptsBoth op left.now.table right.now.table map.now t.table) }
-    ensures reads_left { IfOk result (λ _. ReadsPicked (left_operand left.now.table map.now)) }
-    ensures reads_right { IfOk result (λ _. ReadsPicked (right_operand right.now.table map.now)) }
     ensures stands { IfOk result (λ t. (f g : Formula) (s u : List ℤ → List ℤ) → StandsForWhole left.now.table (set_of f s) → StandsForWhole right.now.table (set_of g u) → StandsForWhole t.table (joined op (set_of f s) (set_of g u) map.now)) }
     ensures pairs { IfOk result (λ t. IsPairTable op left.now.table right.now.table map.now limit t.table) }
     ensures heavy { IfErr result (λ e. e ≡ BuildError.Heavy → IsHeavy (pairs left.now.table right.now.table map.now) limit) }

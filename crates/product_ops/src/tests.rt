@@ -1,6 +1,6 @@
 //! The diagrams of x <= 3 and x >= 0, numbered by their least paths, and what is made of them.
 
-ghost use Rattle.std.specs.Prelude.{◌≡◌, ◌<◌, ◌≤◌, length, IfOk};
+ghost use Rattle.std.specs.Prelude.{◌≡◌, ◌<◌, IsTrue, IfOk};
 ghost use Rattle.lash_model.specs.Tables.{IsDiagram};
 ghost use Rattle.step_tables.specs.Kept.{wide};
 ghost use Rattle.product_ops.specs.Tracks.{AreTracks};
@@ -17,9 +17,6 @@ use step_tables::{BuildError, Plain, Table};
 fn set_row(rt: &impl Abort, table: &mut Table<Plain>, state: u32, row: [u32; 3])
     requires cells { table.old.bounds ≡ wide }
     ensures cells { table.new.bounds ≡ wide }
-    ensures base { table.new.table.base ≡ table.old.table.base }
-    ensures tracks { table.new.table.tracks ≡ table.old.table.tracks }
-    ensures colours { table.new.table.colours ≡ table.old.table.colours }
 {
     let [out, zero, one] = row;
     assert!(rt; table.letters() == 2 && state < table.ints());
@@ -33,9 +30,6 @@ fn set_row(rt: &impl Abort, table: &mut Table<Plain>, state: u32, row: [u32; 3])
 /// The diagram of x <= 3.
 fn at_most_three(rt: &impl Abort, alloc: Global, two: Base) -> Result<Table<Plain>, Memory>
     requires { two ≡ 2 }
-    ensures base { IfOk result (λ k. k.table.base ≡ 2) }
-    ensures tracks { IfOk result (λ k. k.table.tracks ≡ 1) }
-    ensures diagram { IfOk result (λ k. IsDiagram k.table) }
 {
     let mut table = match Table::<Plain>::blank(alloc, two, 1, 5, 0) {
         Ok(table) => table,
@@ -53,9 +47,6 @@ fn at_most_three(rt: &impl Abort, alloc: Global, two: Base) -> Result<Table<Plai
 /// The diagram of x >= 0.
 fn not_negative(rt: &impl Abort, alloc: Global, two: Base) -> Result<Table<Plain>, Memory>
     requires { two ≡ 2 }
-    ensures base { IfOk result (λ k. k.table.base ≡ 2) }
-    ensures tracks { IfOk result (λ k. k.table.tracks ≡ 1) }
-    ensures diagram { IfOk result (λ k. IsDiagram k.table) }
 {
     let mut table = match Table::<Plain>::blank(alloc, two, 1, 2, 0) {
         Ok(table) => table,
@@ -92,7 +83,6 @@ fn roots_are(rt: &impl Abort, table: &Table<Plain>, roots: &[u32]) {
 fn one_place(alloc: Global, tracks: u32, place: u32) -> Result<Vec<u32>, Memory>
     requires { place < tracks }
     ensures places { IfOk result (λ v. AreTracks tracks v.items) }
-    ensures count { IfOk result (λ v. length v.items ≡ 1) }
 {
     match Vec::from_slice(alloc, &[place]) {
         Ok(places) => Ok(places),
@@ -104,9 +94,6 @@ fn one_place(alloc: Global, tracks: u32, place: u32) -> Result<Vec<u32>, Memory>
 fn map_of(alloc: Global, tracks: u32, left: u32, right: u32) -> Result<TrackMap, Memory>
     requires left { left < tracks }
     requires right { right < tracks }
-    ensures tracks { IfOk result (λ m. m.tracks ≡ tracks) }
-    ensures left { IfOk result (λ m. length m.left ≡ 1) }
-    ensures right { IfOk result (λ m. length m.right ≡ 1) }
 {
     let first = match one_place(alloc, tracks, left) {
         Ok(first) => first,
@@ -118,53 +105,82 @@ fn map_of(alloc: Global, tracks: u32, left: u32, right: u32) -> Result<TrackMap,
     }
 }
 
+/// Whether a diagram is over one track in base 2.
+fn is_simple(table: &Table<Plain>) -> bool
+    ensures { IsTrue result → (table.now.table.base ≡ 2) × (table.now.table.tracks ≡ 1) × IsDiagram table.now.table }
+{
+    table.base().radix() == 2 && table.tracks() == 1 && table.fracs() == 0
+}
+
 /// What is made of two diagrams of one track each.
 fn made(
+    rt: &impl Abort,
     alloc: Global,
-    left: &Table<Plain>,
-    right: &Table<Plain>,
+    tables: (&Table<Plain>, &Table<Plain>),
     map: &TrackMap,
     op: Op,
     limit: u64,
-) -> Result<Table<Plain>, BuildError>
-    requires bases { (left.now.table.base ≡ 2) × (right.now.table.base ≡ 2) }
-    requires tracks { (left.now.table.tracks ≡ 1) × (right.now.table.tracks ≡ 1) }
-    requires left { IsDiagram left.now.table }
-    requires right { IsDiagram right.now.table }
-    requires left_map { length map.now.left ≡ 1 }
-    requires right_map { length map.now.right ≡ 1 }
-    requires few { map.now.tracks ≤ 2 }
-    requires limit { limit ≤ 70 }
-{
+) -> Result<Table<Plain>, BuildError> {
+    let (left, right) = tables;
+    assert!(rt; is_simple(left) && is_simple(right));
+    assert!(rt; map.left().len() == 1 && map.right().len() == 1);
+    assert!(rt; map.tracks() <= 2 && limit <= 70);
     product(alloc, left, right, map, op, limit)
 }
 
-// Five pairs of 25 cells, and at one cell less none.
-fn one_track(
+// Of five pairs: the outputs.
+fn outs_by(
     rt: &impl Abort,
     alloc: Global,
-    left: &Table<Plain>,
-    right: &Table<Plain>,
-) -> Result<(), Fail>
-    requires bases { (left.now.table.base ≡ 2) × (right.now.table.base ≡ 2) }
-    requires tracks { (left.now.table.tracks ≡ 1) × (right.now.table.tracks ≡ 1) }
-    requires left { IsDiagram left.now.table }
-    requires right { IsDiagram right.now.table }
-{
-    let map = map_of(alloc, 1, 0, 0)?;
-    let both = made(alloc, left, right, &map, Op::And, 25)?;
-    roots_are(rt, &both, &[0, 1]);
-    outs_are(rt, &both, &[1, 0, 1, 1, 0]);
-    row_is(rt, &both, 0, &[0, 2]);
-    row_is(rt, &both, 2, &[3, 3]);
-    let one = made(alloc, left, right, &map, Op::Or, 25)?;
-    outs_are(rt, &one, &[1, 1, 1, 1, 1]);
-    let without = made(alloc, left, right, &map, Op::AndNot, 25)?;
-    outs_are(rt, &without, &[0, 1, 0, 0, 0]);
-    match made(alloc, left, right, &map, Op::And, 24) {
+    tables: (&Table<Plain>, &Table<Plain>),
+    map: &TrackMap,
+    op: Op,
+    outs: &[u32],
+) -> Result<(), Fail> {
+    let table = made(rt, alloc, tables, map, op, 25)?;
+    outs_are(rt, &table, outs);
+    Ok(())
+}
+
+// The roots and two rows.
+fn five_pairs(
+    rt: &impl Abort,
+    alloc: Global,
+    tables: (&Table<Plain>, &Table<Plain>),
+    map: &TrackMap,
+) -> Result<(), Fail> {
+    let table = made(rt, alloc, tables, map, Op::And, 25)?;
+    roots_are(rt, &table, &[0, 1]);
+    row_is(rt, &table, 0, &[0, 2]);
+    row_is(rt, &table, 2, &[3, 3]);
+    Ok(())
+}
+
+// Five pairs have 25 cells: at one cell less there is no table.
+fn too_heavy(
+    rt: &impl Abort,
+    alloc: Global,
+    tables: (&Table<Plain>, &Table<Plain>),
+    map: &TrackMap,
+) {
+    match made(rt, alloc, tables, map, Op::And, 24) {
         Ok(_) => assert!(rt; false, "25 cells pass the limit 24"),
         Err(error) => assert_eq!(rt; error, BuildError::Heavy),
     }
+}
+
+// The sets of x <= 3 and x >= 0, of x <= 3 or x >= 0, and of x <= 3 without x >= 0.
+fn one_track(
+    rt: &impl Abort,
+    alloc: Global,
+    tables: (&Table<Plain>, &Table<Plain>),
+    map: &TrackMap,
+) -> Result<(), Fail> {
+    five_pairs(rt, alloc, tables, map)?;
+    outs_by(rt, alloc, tables, map, Op::And, &[1, 0, 1, 1, 0])?;
+    outs_by(rt, alloc, tables, map, Op::Or, &[1, 1, 1, 1, 1])?;
+    outs_by(rt, alloc, tables, map, Op::AndNot, &[0, 1, 0, 0, 0])?;
+    too_heavy(rt, alloc, tables, map);
     Ok(())
 }
 
@@ -172,16 +188,10 @@ fn one_track(
 fn two_tracks(
     rt: &impl Abort,
     alloc: Global,
-    left: &Table<Plain>,
-    right: &Table<Plain>,
-) -> Result<(), Fail>
-    requires bases { (left.now.table.base ≡ 2) × (right.now.table.base ≡ 2) }
-    requires tracks { (left.now.table.tracks ≡ 1) × (right.now.table.tracks ≡ 1) }
-    requires left { IsDiagram left.now.table }
-    requires right { IsDiagram right.now.table }
-{
-    let map = map_of(alloc, 2, 0, 1)?;
-    let both = made(alloc, right, left, &map, Op::And, 70)?;
+    tables: (&Table<Plain>, &Table<Plain>),
+    map: &TrackMap,
+) -> Result<(), Fail> {
+    let both = made(rt, alloc, tables, map, Op::And, 70)?;
     roots_are(rt, &both, &[0, 1, 2, 3]);
     outs_are(rt, &both, &[1, 1, 0, 0, 1, 0, 1, 0, 0, 0]);
     row_is(rt, &both, 0, &[0, 4, 0, 4]);
@@ -190,10 +200,21 @@ fn two_tracks(
     Ok(())
 }
 
+fn products(
+    rt: &impl Abort,
+    alloc: Global,
+    left: &Table<Plain>,
+    right: &Table<Plain>,
+) -> Result<(), Fail> {
+    let one = map_of(alloc, 1, 0, 0)?;
+    one_track(rt, alloc, (left, right), &one)?;
+    let two = map_of(alloc, 2, 0, 1)?;
+    two_tracks(rt, alloc, (right, left), &two)
+}
+
 // The set of not x <= 3.
-fn others(rt: &impl Abort, table: &mut Table<Plain>)
-    requires { IsDiagram table.old.table }
-{
+fn others(rt: &impl Abort, table: &mut Table<Plain>) {
+    assert!(rt; is_simple(table));
     complement(table);
     outs_are(rt, table, &[0, 0, 0, 0, 1]);
     roots_are(rt, table, &[0, 1]);
@@ -206,8 +227,7 @@ fn truth_functions(rt: HostRuntime) -> Result<(), Fail> {
     let two = Base::new(2).ok_or("2 is a base")?;
     let mut left = at_most_three(&rt, alloc, two)?;
     let right = not_negative(&rt, alloc, two)?;
-    one_track(&rt, alloc, &left, &right)?;
-    two_tracks(&rt, alloc, &left, &right)?;
+    products(&rt, alloc, &left, &right)?;
     others(&rt, &mut left);
     Ok(())
 }

@@ -26,12 +26,6 @@ returns-clause-words g c =
     (c.fill_outs.ensures.filled.laid.shape.base_is ∙ c.base.ensures)
     (c.fill_outs.ensures.filled.laid.shape.tracks_are ∙ c.tracks.ensures)
 
-pub returns-clause-reads_left : goal.returns-clause-reads_left
-returns-clause-reads_left g c = reads_picked (left_operand c.args.left.now.table c.args.map.now) c.in-Ok.ensures.operands.left_is
-
-pub returns-clause-reads_right : goal.returns-clause-reads_right
-returns-clause-reads_right g c = reads_picked (right_operand c.args.right.now.table c.args.map.now) c.in-Ok.ensures.operands.right_is
-
 pub returns-clause-stands : goal.returns-clause-stands
 returns-clause-stands g c = λ f h s u p q.
     product_stands c.args.op c.args.left.now.table c.args.right.now.table c.args.map.now c.fill_outs.new.made.table
