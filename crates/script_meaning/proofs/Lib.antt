@@ -1,0 +1,5 @@
+pub mod Lists
+pub mod Coefficients
+pub mod Counting
+pub mod Judging
+pub mod Declaring

@@ -1,0 +1,14 @@
+//! The meaning of statements: which names are wrong, which limits are passed, and the core formula that a tree stands for.
+#![tactic(auto)]
+
+mod atoms;
+mod counts;
+mod formulas;
+mod limits;
+mod literals;
+mod names;
+mod scope;
+mod terms;
+
+pub use limits::Which;
+pub use names::{FaultAt, NameFault};
