@@ -53,6 +53,13 @@ impl<'a> Cursor<'a> {
         self.token().is_none()
     }
 
+    /// How many tokens are left.
+    pub fn remaining(&self) -> usize
+        ensures { result ≡ length self.now }
+    {
+        self.tokens.len() - self.at
+    }
+
     /// The token in hand, if there is one.
     pub fn token(&self) -> Option<Placed<'a>>
         ensures { token_at self.now ≡ shown result }
@@ -83,6 +90,9 @@ impl<'a> Cursor<'a> {
     }
 
     /// Goes on behind the keyword or sign, which has to be in hand.
+    ///
+    /// # Errors
+    /// `Syntax` where it is not.
     pub fn expect(&mut self, kind: Kind) -> Result<(), Stop>
         ensures answer { Agrees (λ u. u) (res_map forgotten ((sign kind).parse self.old)) result self.old self.new }
         ensures onward { length self.new ≤ length self.old }

@@ -90,8 +90,11 @@ impl<'a> Cursor<'a> {
         Ok(declarations)
     }
 
-    // declaration { , declaration }
-    pub(crate) fn declarations(&mut self, alloc: Global) -> Result<Vec<Declaration<'a>>, Stop>
+    /// Declarations, `name sort { , name sort }`.
+    ///
+    /// # Errors
+    /// `Syntax` at the token with which no declarations go on, and `Memory`.
+    pub fn declarations(&mut self, alloc: Global) -> Result<Vec<Declaration<'a>>, Stop>
         ensures answer { Agrees (λ v. map declaration_of v.items) (res_map declarations_shape (declarations.parse self.old)) result self.old self.new }
         ensures onward { length self.new ≤ length self.old }
     {
@@ -134,8 +137,11 @@ impl<'a> Cursor<'a> {
         }
     }
 
-    // ( [ declarations ] )
-    pub(crate) fn header(&mut self, alloc: Global) -> Result<Vec<Declaration<'a>>, Stop>
+    /// A header, `( [ declarations ] )`.
+    ///
+    /// # Errors
+    /// `Syntax` at the token with which no header goes on, and `Memory`.
+    pub fn header(&mut self, alloc: Global) -> Result<Vec<Declaration<'a>>, Stop>
         ensures answer { Agrees (λ v. map declaration_of v.items) (res_map header_shape (header.parse self.old)) result self.old self.new }
         ensures onward { length self.new ≤ length self.old }
     {

@@ -37,6 +37,9 @@ impl<'a> Cursor<'a> {
     }
 
     /// A formula with no more than `depth` open groups at any place.
+    ///
+    /// # Errors
+    /// `Syntax` at the token with which no formula goes on, `Nesting` at the token that opens one group too many, and `Memory`.
     #[cycle(formula)]
     pub fn formula(&mut self, alloc: Global, depth: u32) -> Result<Tree<'a>, Stop>
         ensures answer { Agrees tree_of (res_map form_shape ((form_lang (room depth) 0).parse self.old)) result self.old self.new }

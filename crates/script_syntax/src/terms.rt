@@ -3,10 +3,10 @@
 ghost use Rattle.std.specs.Prelude.{◌≡◌, ◌≤◌, length, map};
 ghost use Rattle.parser_laws.specs.Parsing.{res_map, perhaps, done, both, starts_with};
 ghost use Rattle.script_tokens.specs.declared.kind.Kind.TheVariants as kind;
-ghost use Rattle.script_grammar.specs.Views.{is, sign, name};
+ghost use Rattle.script_grammar.specs.Views.{is, sign, name, number};
 ghost use Rattle.script_grammar.specs.Terms.{scaled, part, term, terms, arguments, called, starts_term};
 ghost use Rattle.script_syntax.specs.Reading.{Agrees};
-ghost use Rattle.script_syntax.specs.Trees.{scaled_part, part_shape, named_of, terms_read, terms_shape, arguments_shape, closed_shape, called_shape, part_of, signed_of, parts_read, adding_at, term_shape, term_of, negated};
+ghost use Rattle.script_syntax.specs.Trees.{scaled_part, part_shape, named_of, terms_read, terms_shape, arguments_shape, closed_shape, called_shape, part_of, signed_of, parts_read, adding_at, term_shape, term_of, negated, without_place};
 
 use crate::cursor::{Cursor, Stop};
 use crate::tree::{NameAt, Part, Signed, Term};
@@ -46,8 +46,11 @@ impl<'a> Cursor<'a> {
         }
     }
 
-    // A name.
-    pub(crate) fn name(&mut self) -> Result<NameAt<'a>, Stop>
+    /// A name.
+    ///
+    /// # Errors
+    /// `Syntax` where no name is in hand.
+    pub fn name(&mut self) -> Result<NameAt<'a>, Stop>
         ensures answer { Agrees named_of (name.parse self.old) result self.old self.new }
         ensures onward { length self.new ≤ length self.old }
     {
@@ -125,8 +128,33 @@ impl<'a> Cursor<'a> {
         Ok(parts)
     }
 
-    // [-] part { (+ | -) part }
-    pub(crate) fn term(&mut self, alloc: Global) -> Result<Term<'a>, Stop>
+    /// A number that is not scaled.
+    ///
+    /// # Errors
+    /// `Syntax` where no number is in hand.
+    pub fn number(&mut self) -> Result<u128, Stop>
+        ensures answer { Agrees (λ n. n) (res_map without_place (number.parse self.old)) result self.old self.new }
+        ensures onward { length self.new ≤ length self.old }
+    {
+        match self.token() {
+            Some(
+                Placed {
+                    token: Token::Number(number),
+                    ..
+                },
+            ) => {
+                self.step();
+                Ok(number)
+            }
+            _ => Err(Stop::Syntax),
+        }
+    }
+
+    /// A term, `[-] part { (+ | -) part }`.
+    ///
+    /// # Errors
+    /// `Syntax` at the token with which no term goes on, and `Memory`.
+    pub fn term(&mut self, alloc: Global) -> Result<Term<'a>, Stop>
         ensures answer { Agrees term_of (res_map term_shape (term.parse self.old)) result self.old self.new }
         ensures onward { length self.new ≤ length self.old }
     {
@@ -146,8 +174,8 @@ impl<'a> Cursor<'a> {
         }
     }
 
-    // Takes a minus, if it is in hand.
-    fn minus(&mut self) -> bool
+    /// Takes a minus, if it is in hand, and tells whether it was.
+    pub fn minus(&mut self) -> bool
         ensures answer { res_map negated ((perhaps (is kind.Minus) (sign kind.Minus)).parse self.old) ≡ done result self.new }
         ensures onward { length self.new ≤ length self.old }
     {
