@@ -3,3 +3,4 @@ pub mod Coefficients
 pub mod Counting
 pub mod Judging
 pub mod Declaring
+pub mod Fresh

@@ -7,8 +7,10 @@ mod formulas;
 mod limits;
 mod literals;
 mod names;
+mod resolving;
 mod scope;
 mod terms;
 
 pub use limits::Which;
 pub use names::{FaultAt, NameFault};
+pub use resolving::{Refusal, Resolved, resolve};
