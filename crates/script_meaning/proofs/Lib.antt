@@ -4,3 +4,4 @@ pub mod Counting
 pub mod Judging
 pub mod Declaring
 pub mod Fresh
+pub mod Valuing
