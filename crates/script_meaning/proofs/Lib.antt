@@ -5,3 +5,4 @@ pub mod Judging
 pub mod Declaring
 pub mod Fresh
 pub mod Valuing
+pub mod Connecting
