@@ -62,5 +62,6 @@ within_or_passed base places tree f which h k = elim k [ inl e ↦ none_or_some 
 
 pub one_passed : (base places : ℕ) (tree : TreeShape) (f : Formula) (which other : Which) → IsFirstPassed base places tree f which → IsFirstPassed base places tree f other → which ≡ other
 one_passed base places tree f which other h k = elim h [
-    inl e ↦ elim k [ inl d ↦ same e d | inr q ↦ absurd (none_or_some q.0 e) ]
-  | inr p ↦ elim k [ inl d ↦ absurd (none_or_some p.0 d) | inr q ↦ p.1 ∙ sym q.1 ] ]
+  | inl e ↦ elim k [ inl d ↦ same e d | inr q ↦ absurd (none_or_some q.0 e) ]
+  | inr p ↦ elim k [ inl d ↦ absurd (none_or_some p.0 d) | inr q ↦ p.1 ∙ sym q.1 ]
+]

@@ -20,7 +20,6 @@ prefix_map f test (x ∷ xs) = ap (λ n. cond (test (f x)) (1 + n) 0) (prefix_ma
 pub position_map : {A B : Type 0} (f : A → B) (test : B → Bool) (xs : List A) → position (λ x. test (f x)) xs ≡ position test (map f xs)
 position_map f test xs = ap₂ (λ n k. cond (ltb n k) (Some n) None) (prefix_map f (λ y. not (test y)) xs) (sym (length-map xs f))
 
-
 -- an entry of the map, as a variable
 abbrev pub entry_of : Bor (List ℕ) × DeclaredSort → List ℕ × Sort
 entry_of e = (e.0.now, sort_of e.1)
