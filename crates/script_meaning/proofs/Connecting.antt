@@ -1,6 +1,6 @@
 -- What the core formulas of connectives say, and that limits exclude each other.
-use Rattle.std.proofs.Common.{◌≡◌, ℕ, ◌<◌, List, arith, refl, sym, ◌∙◌, ap, Option, None, Some, Bool, true, false, inl, inr}
-use Rattle.std.proofs.Math.IntN.{ℤ, pos, negsuc, ◌*ℤ◌}
+use Rattle.std.proofs.Common.{◌≡◌, ℕ, ◌<◌, List, arith, sym, ◌∙◌, ap, Option, None, Some, Bool, true, false, inl, inr}
+use Rattle.std.proofs.Math.IntN.{ℤ, pos}
 use Rattle.std.specs.Prelude.{◌⊎◌, ◌↔◌}
 use Rattle.std.proofs.lemmas.Bool.{false≢true}
 use Rattle.std.proofs.lemmas.Int.{ints}
@@ -10,7 +10,7 @@ use Rattle.lash_model.specs.Meaning.{total, holds}
 use Rattle.script_syntax.specs.Trees.{TreeShape, Truth, Not, And, Or, Implies, Equivalent}
 use Rattle.script_meaning.specs.Scopes.{Scope}
 use Rattle.script_meaning.specs.Core.{core}
-use Rattle.script_meaning.specs.Resolving.{first_passed, IsWithin, IsFirstPassed}
+use Rattle.script_meaning.specs.Resolving.{IsWithin, IsFirstPassed}
 use Rattle.script_meaning.specs.declared.limits.Which.{Which}
 
 pub always : (scope : Scope) (ns : List ℤ) (d : ℕ) → holds (core scope (Truth true)) ns d

@@ -1,7 +1,7 @@
 -- Lists of variables.
-use Rattle.std.proofs.Common.{◌≡◌, ℕ, ◌+◌, List, [], ◌∷◌, ◌++◌, map, length, refl, ap, ap₂, ◌∙◌, sym, Bool, true, false, cond, not, arith, ltb}
-use Rattle.std.specs.List.{position, prefix_len, position_or_len}
-use Rattle.std.specs.Prelude.{Some, None, Option}
+use Rattle.std.proofs.Common.{◌≡◌, ℕ, ◌+◌, List, [], ◌∷◌, map, refl, ap, ap₂, ◌∙◌, sym, Bool, cond, not, ltb}
+use Rattle.std.specs.List.{position, prefix_len}
+use Rattle.std.specs.Prelude.{Some, None}
 use Rattle.std.specs.Map.{keys_of, lookup}
 use Rattle.std.proofs.lemmas.List.{length-map}
 use Rattle.std.proofs.Common.{Bor, nat_eq}

@@ -1,13 +1,11 @@
 -- The total of a comparison's coefficients is the difference of its terms' values, up to the constants.
-use Rattle.std.proofs.Common.{◌≡◌, ℕ, suc, ◌+◌, ◌*◌, List, [], ◌∷◌, get_or, arith, refl, sym, ap, ◌∙◌, Bool, true, false, Option, None, Some}
-use Rattle.std.proofs.Math.IntN.{ℤ, pos, negsuc, neg_ℤ, ◌+ℤ◌, ◌-ℤ◌, ◌*ℤ◌}
+use Rattle.std.proofs.Common.{◌≡◌, ℕ, List, [], ◌∷◌, arith, refl, ap, ◌∙◌, Bool, true, false, Option, None, Some}
+use Rattle.std.proofs.Math.IntN.{ℤ, pos, neg_ℤ, ◌+ℤ◌, ◌-ℤ◌, ◌*ℤ◌}
 use Rattle.std.specs.Prelude.{◌≤ℤ◌, ◌<ℤ◌, not, ◌↔◌}
 use Rattle.std.proofs.lemmas.Int.{ints}
 use Rattle.integer_laws.specs.Differences.{diff}
-use Rattle.integer_laws.proofs.Ring.{by_diff, diff_same, diff_sub, diff_mul, pos_diff, times_comm, times_one, times_zero, sum_times}
-use Rattle.lash_model.specs.Formulas.{Le, Eq}
+use Rattle.integer_laws.proofs.Ring.{by_diff, diff_same, diff_sub, diff_mul, times_comm, times_one, times_zero, sum_times}
 use Rattle.lash_model.specs.Meaning.{total, holds}
-use Rattle.formula_core.specs.Terms.{added}
 use Rattle.formula_core.proofs.Adding.{total_added}
 use Rattle.script_grammar.specs.Views.{Relation, AtMost, Below, AtLeast, Above, Equal, Unequal}
 use Rattle.script_syntax.specs.Trees.{PartShape, Constant, Scaled, Variable, SignedShape}

@@ -1,4 +1,4 @@
-use Rattle.std.proofs.Common.{rules, ◌≡◌, sym, ap, ap₂, ◌∙◌, subst, map, false}
+use Rattle.std.proofs.Common.{◌≡◌, sym, ap, ap₂, ◌∙◌, subst, map, false}
 use Rattle.std.specs.Prelude.{IfOk}
 use Rattle.script_syntax.specs.Trees.{declaration_of, quantifier_of, tree_of}
 use Rattle.script_meaning.specs.Core.{core}

@@ -1,4 +1,4 @@
-use Rattle.std.proofs.Common.{◌≡◌, ◌+◌, ◌*◌, sym, ap, ◌∙◌, map, length}
+use Rattle.std.proofs.Common.{◌+◌, ◌*◌, sym, ap, ◌∙◌, map, length}
 use Rattle.std.specs.Prelude.{min}
 use Rattle.formula_core.specs.Counts.{nodes_of, count_limit}
 use Rattle.script_syntax.specs.Trees.{declaration_of, quantifier_of, tree_of}
