@@ -22,8 +22,8 @@ pub fn fits_letters(base: Base, formula: &Formula, places: u32) -> bool
     are_few(radix, places) && free_set(radix, formula, places as u64).is_some()
 }
 
-// Whether there are at most 4,096 letters over so many tracks.
-fn are_few(radix: u32, tracks: u32) -> bool
+/// Whether there are at most 4,096 letters over so many tracks, in the base of that radix.
+pub fn are_few(radix: u32, tracks: u32) -> bool
     ensures { IsTrue result ↔ AreFew radix tracks }
 {
     match radix.checked_pow(tracks) {

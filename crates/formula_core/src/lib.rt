@@ -13,7 +13,7 @@ mod vars;
 pub use formula::{Formula, all_int, depth, nodes};
 pub use free::free_vars;
 pub use laws::depends_on_free_places;
-pub use letters::fits_letters;
+pub use letters::{are_few, fits_letters};
 pub use linear::Linear;
 pub use sort::Sort;
 pub use vars::Vars;

@@ -1,0 +1,102 @@
+-- The core formula that a tree stands for.
+use Rattle.std.specs.Prelude.{ℕ, List, [], ◌∷◌, Bool, true, false, not, Option, None, Some, ℤ, pos, negsuc, neg_ℤ, ◌+ℤ◌, ◌-ℤ◌, if◌then◌else◌}
+use Rattle.lash_model.specs.Formulas.{Sort, Linear, Formula, Le, Eq, Not as CoreNot, And as CoreAnd, Or as CoreOr, Exists as CoreExists}
+use Rattle.formula_core.specs.Terms.{added}
+use Rattle.script_grammar.specs.Views.{Relation, AtMost, Below, AtLeast, Above, Equal, Unequal, Quantifier, Exists, Forall}
+use Rattle.script_syntax.specs.Trees.{PartShape, Constant, Scaled, Variable, SignedShape, DeclarationShape, TreeShape, Truth, Compare, Call, Not, And, Or, Implies, Equivalent, Quantified}
+use Rattle.script_meaning.specs.Scopes.{Scope, place_of, with_declared}
+
+-- a number with its sign
+abbrev pub signed : Bool → ℕ → ℤ
+signed minus n = if minus then neg_ℤ (pos n) else pos n
+
+-- the other sign where the side is turned
+abbrev pub turned : Bool → Bool → Bool
+turned turn minus = if minus then not turn else turn
+
+-- a coefficient added at the place of a name
+abbrev pub added_at : List (ℕ × ℤ) → Option ℕ → ℤ → List (ℕ × ℤ)
+added_at terms None coefficient = terms
+added_at terms (Some place) coefficient = added terms place coefficient
+
+-- the coefficient of a part, added to those that are there
+abbrev pub with_part : Scope → List (ℕ × ℤ) → Bool → PartShape → List (ℕ × ℤ)
+with_part scope terms minus (Constant n) = terms
+with_part scope terms minus (Scaled n name) = added_at terms (place_of scope name.left) (signed minus n)
+with_part scope terms minus (Variable name) = added_at terms (place_of scope name.left) (signed minus 1)
+
+-- the coefficients of a term, added to those that are there; where the side is turned they are taken away
+abbrev pub with_term : Scope → Bool → List (ℕ × ℤ) → List SignedShape → List (ℕ × ℤ)
+with_term scope turn terms [] = terms
+with_term scope turn terms (s ∷ ss) = with_term scope turn (with_part scope terms (turned turn s.minus) s.part) ss
+
+abbrev pub part_constant : Bool → PartShape → ℤ
+part_constant minus (Constant n) = signed minus n
+part_constant minus (Scaled n name) = pos 0
+part_constant minus (Variable name) = pos 0
+
+-- the sum of the constants of a term
+abbrev pub constant_of : List SignedShape → ℤ
+constant_of [] = pos 0
+constant_of (s ∷ ss) = part_constant s.minus s.part +ℤ constant_of ss
+
+-- the atom of left - right <= 0: the coefficients of the left term minus those of the right one, and the constant of the right term
+-- minus that of the left one
+abbrev pub difference : Scope → List SignedShape → List SignedShape → Linear
+difference scope left right = record {
+  terms = with_term scope true (with_term scope false [] left) right;
+  constant = constant_of right -ℤ constant_of left;
+}
+
+-- an atom that always holds, and one that never does
+abbrev pub truth : Bool → Formula
+truth b = Le (record { terms = []; constant = if b then pos 0 else negsuc 0 })
+
+-- a strict relation is the negation of the other one with its sides exchanged
+abbrev pub compared : Scope → List SignedShape → Relation → List SignedShape → Formula
+compared scope left AtMost right = Le (difference scope left right)
+compared scope left AtLeast right = Le (difference scope right left)
+compared scope left Below right = CoreNot (Le (difference scope right left))
+compared scope left Above right = CoreNot (Le (difference scope left right))
+compared scope left Equal right = Eq (difference scope left right)
+compared scope left Unequal right = CoreNot (Eq (difference scope left right))
+
+-- the atom of a comparison: `>=` and `<` exchange the sides
+abbrev pub compared_atom : Scope → List SignedShape → Relation → List SignedShape → Linear
+compared_atom scope left AtMost right = difference scope left right
+compared_atom scope left AtLeast right = difference scope right left
+compared_atom scope left Below right = difference scope right left
+compared_atom scope left Above right = difference scope left right
+compared_atom scope left Equal right = difference scope left right
+compared_atom scope left Unequal right = difference scope left right
+
+-- the formula of a comparison whose atom is given
+abbrev pub claimed : Relation → Linear → Formula
+claimed AtMost a = Le a
+claimed AtLeast a = Le a
+claimed Below a = CoreNot (Le a)
+claimed Above a = CoreNot (Le a)
+claimed Equal a = Eq a
+claimed Unequal a = CoreNot (Eq a)
+
+-- one variable bound; for all is not for some not
+abbrev pub bound : Quantifier → Sort → Formula → Formula
+bound Exists sort f = CoreExists sort f
+bound Forall sort f = CoreNot (CoreExists sort (CoreNot f))
+
+-- the variables bound in their order, the first one outermost
+abbrev pub bound_all : Quantifier → List DeclarationShape → Formula → Formula
+bound_all q [] f = f
+bound_all q (d ∷ ds) f = bound q d.sort (bound_all q ds f)
+
+-- no set is kept yet, so a call has no formula; its name is wrong
+abbrev pub core : Scope → TreeShape → Formula
+core scope (Truth b) = truth b
+core scope (Compare left relation right) = compared scope left relation right
+core scope (Call name ts) = truth false
+core scope (Not f) = CoreNot (core scope f)
+core scope (And f g) = CoreAnd (core scope f) (core scope g)
+core scope (Or f g) = CoreOr (core scope f) (core scope g)
+core scope (Implies f g) = CoreOr (CoreNot (core scope f)) (core scope g)
+core scope (Equivalent f g) = CoreAnd (CoreOr (CoreNot (core scope f)) (core scope g)) (CoreOr (CoreNot (core scope g)) (core scope f))
+core scope (Quantified q ds f) = bound_all q ds (core (with_declared scope ds) f)

@@ -1,0 +1,72 @@
+-- The limits of a formula, in the order in which they are judged.
+use Rattle.std.specs.Prelude.{ℕ, ◌+◌, ◌^◌, Bool, false, ◌||◌, nat_lt, List, [], ◌∷◌, length, unsigned_abs}
+use Rattle.lash_model.specs.Formulas.{Linear, coefficient_sum, Formula, Le, Eq, Not as CoreNot, And as CoreAnd, Or as CoreOr, Exists as CoreExists}
+use Rattle.script_syntax.specs.Trees.{PartShape, Constant, Scaled, Variable, SignedShape, TreeShape, Truth, Compare, Call, Not, And, Or, Implies, Equivalent, Quantified}
+
+-- the greatest number that a script may have
+abbrev pub literal_limit : ℕ
+literal_limit = 2 ^ 64
+
+abbrev pub part_passes : PartShape → Bool
+part_passes (Constant n) = nat_lt literal_limit n
+part_passes (Scaled n name) = nat_lt literal_limit n
+part_passes (Variable name) = false
+
+abbrev pub term_passes : List SignedShape → Bool
+term_passes [] = false
+term_passes (s ∷ ss) = part_passes s.part || term_passes ss
+
+abbrev pub terms_pass : List (List SignedShape) → Bool
+terms_pass [] = false
+terms_pass (t ∷ ts) = term_passes t || terms_pass ts
+
+-- some number of the tree passes the limit of literals
+abbrev pub literal_passes : TreeShape → Bool
+literal_passes (Truth b) = false
+literal_passes (Compare a r b) = term_passes a || term_passes b
+literal_passes (Call name ts) = terms_pass ts
+literal_passes (Not f) = literal_passes f
+literal_passes (And f g) = literal_passes f || literal_passes g
+literal_passes (Or f g) = literal_passes f || literal_passes g
+literal_passes (Implies f g) = literal_passes f || literal_passes g
+literal_passes (Equivalent f g) = literal_passes f || literal_passes g
+literal_passes (Quantified q ds f) = literal_passes f
+
+abbrev pub nodes_limit : ℕ
+nodes_limit = 4096
+
+abbrev pub depth_limit : ℕ
+depth_limit = 256
+
+-- the magnitudes of an atom's coefficients sum to more than 2^24
+abbrev pub coefficients_pass : Linear → Bool
+coefficients_pass a = nat_lt (2 ^ 24) (coefficient_sum a.terms)
+
+-- the magnitude of an atom's constant is more than 2^40
+abbrev pub constant_passes : Linear → Bool
+constant_passes a = nat_lt (2 ^ 40) (unsigned_abs a.constant)
+
+-- some atom of the formula passes the test
+abbrev pub some_atom : (Linear → Bool) → Formula → Bool
+some_atom test (Le a) = test a
+some_atom test (Eq a) = test a
+some_atom test (CoreNot f) = some_atom test f
+some_atom test (CoreAnd f g) = some_atom test f || some_atom test g
+some_atom test (CoreOr f g) = some_atom test f || some_atom test g
+some_atom test (CoreExists s f) = some_atom test f
+
+-- how many parts of terms and declared variables a tree has
+abbrev pub size_of : TreeShape → ℕ
+size_of (Truth b) = 0
+size_of (Compare a r b) = length a + length b
+size_of (Call name ts) = 0
+size_of (Not f) = size_of f
+size_of (And f g) = size_of f + size_of g
+size_of (Or f g) = size_of f + size_of g
+size_of (Implies f g) = size_of f + size_of g
+size_of (Equivalent f g) = size_of f + size_of g
+size_of (Quantified q ds f) = length ds + size_of f
+
+-- the greatest number of parts of a term: no statement has more bytes
+abbrev pub terms_limit : ℕ
+terms_limit = 65536

@@ -1,0 +1,23 @@
+//! The meaning of statements: which names are wrong, which limits are passed, and the core formula that a tree stands for.
+#![tactic(auto)]
+
+mod atoms;
+mod counts;
+mod formulas;
+mod laws;
+mod limits;
+mod literals;
+mod names;
+mod resolving;
+mod scope;
+mod terms;
+
+pub use laws::{
+    comparisons_compare_values, connectives_mean_themselves, limits_exclude_each_other,
+};
+pub use limits::Which;
+pub use names::{FaultAt, NameFault};
+pub use resolving::{Refusal, Resolved, resolve};
+
+#[cfg(test)]
+mod tests;
