@@ -33,10 +33,11 @@ zeros base tracks ints fracs = record {
   colours = replicate fracs 0;
 }
 
--- the three counts are those of the table, which is in range, and cells hold both colours
+-- the three counts are those of the table, which is in range, and cells hold both colours and both answers
 pub record IsCounted (k : Kept) (letters ints fracs : ℕ) : Type 0 where
   pub table : IsTable k.table
   pub letters_count : letters ≡ k.table.base ^ k.table.tracks
   pub ints_count : ints ≡ length k.table.outs
   pub fracs_count : fracs ≡ length k.table.colours
   pub two_colours : 2 ≤ k.bounds.colours
+  pub two_answers : 2 ≤ k.bounds.outs

@@ -97,6 +97,7 @@ impl<C: Cells> Table<C> {
     pub fn letters(&self) -> u32
         ensures value { result ≡ letters self.now.table }
         ensures table { IsTable self.now.table }
+        ensures answers { 2 ≤ self.now.bounds.outs }
     {
         self.letters
     }

@@ -1,0 +1,5 @@
+pub mod TrackReading
+pub mod PairRuns
+pub mod Joining
+pub mod LayingOut
+pub mod Exchanging

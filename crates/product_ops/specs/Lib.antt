@@ -1,0 +1,5 @@
+pub mod Tracks
+pub mod Operations
+pub mod Pairs
+pub mod Filling
+pub mod Negation

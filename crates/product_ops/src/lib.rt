@@ -1,0 +1,21 @@
+//! Truth functions of automata over integers: the product of two diagrams, and the complement of one.
+#![tactic(auto)]
+
+mod filling;
+mod laws;
+mod negation;
+mod operation;
+mod outputs;
+mod pairs;
+mod reading;
+mod synchronous;
+mod track_map;
+
+pub use laws::{heavy_or_pairs, operands_read_words};
+pub use negation::complement;
+pub use operation::Op;
+pub use synchronous::product;
+pub use track_map::TrackMap;
+
+#[cfg(test)]
+mod tests;
