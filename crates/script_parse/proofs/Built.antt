@@ -1,9 +1,9 @@
 -- Which statements have nothing that is not built yet.
-use Rattle.std.proofs.Common.{◌≡◌, ℕ, List, [], ◌∷◌, ◌++◌, refl, sym, ◌∙◌, ap, Bool, true, false}
+use Rattle.std.proofs.Common.{◌≡◌, refl, sym, false}
 use Rattle.std.proofs.lemmas.Bool.{false≢true}
-use Rattle.parser_laws.specs.Parsing.{first, other, Pair}
+use Rattle.parser_laws.specs.Parsing.{first, other}
 use Rattle.script_grammar.specs.Statements.{whole_statement, Statement}
-use Rattle.script_statements.specs.Statements.{ComprehensionShape, StatementShape, Show, statement_shape, show_shape, described_shape}
+use Rattle.script_statements.specs.Statements.{ComprehensionShape, Show, statement_shape, described_shape}
 use Rattle.script_parse.specs.Unbuilt.{has_unbuilt}
 
 -- a whole statement whose tokens have nothing unbuilt is a `show`
