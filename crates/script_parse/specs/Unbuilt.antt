@@ -1,0 +1,30 @@
+-- What is not built yet: the statements besides `show`, quantifiers, real variables and calls.
+use Rattle.std.specs.Prelude.{◌||◌, ◌&&◌, Bool, true, false, List, [], ◌∷◌}
+use Rattle.parser_laws.specs.Parsing.{starts_with}
+use Rattle.script_tokens.specs.declared.kind.Kind.{Kind}
+use Rattle.script_tokens.specs.declared.kind.Kind.TheVariants as kind
+use Rattle.script_tokens.specs.Tokens.{Token, Name, Number, Sign, Bad, PlacedToken}
+use Rattle.script_grammar.specs.Views.{is, is_name, same_kind}
+
+abbrev pub is_one_of : List Kind → Kind → Bool
+is_one_of [] k = false
+is_one_of (j ∷ js) k = same_kind k j || is_one_of js k
+
+abbrev pub unbuilt_kinds : List Kind
+unbuilt_kinds = kind.Set ∷ kind.Print ∷ kind.Solve ∷ kind.Test ∷ kind.Equal ∷ kind.Subset ∷ kind.Check ∷ kind.Loop ∷ kind.Exists ∷ kind.Forall ∷ kind.Real ∷ []
+
+-- a keyword of what is not built
+abbrev pub is_unbuilt_token : Token → Bool
+is_unbuilt_token (Name n) = false
+is_unbuilt_token (Number n) = false
+is_unbuilt_token (Sign k) = is_one_of unbuilt_kinds k
+is_unbuilt_token Bad = false
+
+-- a name directly before a parenthesis
+abbrev pub begins_call : PlacedToken → List PlacedToken → Bool
+begins_call t ts = is_name t && starts_with (is kind.Open) ts
+
+-- some token is of what is not built
+abbrev pub has_unbuilt : List PlacedToken → Bool
+has_unbuilt [] = false
+has_unbuilt (t ∷ ts) = (is_unbuilt_token t.token || begins_call t ts) || has_unbuilt ts
