@@ -1,0 +1,10 @@
+//! Statements of scripts over a source: what each asks, or why it is refused.
+#![tactic(auto)]
+
+mod errors;
+mod piece;
+mod statement;
+mod unbuilt;
+
+pub use errors::ScriptError;
+pub use statement::Statement;
