@@ -1,2 +1,6 @@
 pub mod Placing
 pub mod Ending
+pub mod Built
+pub mod Sizes
+pub mod DeclaredNames
+pub mod Answering

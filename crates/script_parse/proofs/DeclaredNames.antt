@@ -1,0 +1,63 @@
+-- The variables that a `show` declares have names of variables.
+use Rattle.std.proofs.Common.{◌≡◌, List, [], ◌∷◌, ◌++◌, subst, inl}
+use Rattle.std.specs.List.{All, AllByRecursion}
+use Rattle.std.proofs.lemmas.List.Elements.{All-from_recursion}
+use Rattle.parser_laws.specs.Parsing.{Either, first, other, Lang, both, items, perhaps}
+use Rattle.formula_core.specs.Names.{IsVariableName}
+use Rattle.script_tokens.specs.declared.kind.Kind.TheVariants as kind
+use Rattle.script_tokens.specs.Tokens.{PlacedToken}
+use Rattle.script_tokens.specs.Naming.{AreNamed}
+use Rattle.script_grammar.specs.Views.{is, is_name, sign, at}
+use Rattle.script_grammar.specs.Terms.{declaration, declarations}
+use Rattle.script_grammar.specs.Formulas.{form_toks}
+use Rattle.script_grammar.specs.Statements.{header, whole_statement, Statement}
+use Rattle.script_syntax.specs.Reading.{folded}
+use Rattle.script_syntax.specs.Trees.{DeclarationShape, add_declaration, declaration_shape, declarations_shape, perhaps_declared, header_shape}
+use Rattle.script_statements.specs.Statements.{ComprehensionShape, Described, Show, statement_shape, described_shape}
+
+abbrev IsFine : DeclarationShape → Type 0
+IsFine d = IsVariableName d.name.left
+
+-- the grammar's parts that have no name there
+abbrev more_declarations : Lang PlacedToken
+more_declarations = items (is kind.Comma) (both (sign kind.Comma) declaration)
+
+abbrev perhaps_declarations : Lang PlacedToken
+perhaps_declarations = perhaps is_name declarations
+
+front : (ts us : List PlacedToken) → AreNamed (ts ++ us) → AreNamed ts
+front [] us h = tt
+front (t ∷ ts) us h = (h.0, front ts us h.1)
+
+at_end : (s : List DeclarationShape) (d : DeclarationShape) → AllByRecursion IsFine s → IsFine d → AllByRecursion IsFine (s ++ d ∷ [])
+at_end [] d f g = (g, tt)
+at_end (x ∷ s) d f g = (f.0, at_end s d f.1 g)
+
+more_named : (s : List DeclarationShape) (l : more_declarations.Tree) → AllByRecursion IsFine s → AreNamed (more_declarations.toks l) → AllByRecursion IsFine (folded add_declaration s l)
+more_named s [] f h = f
+more_named s (x ∷ l) f h = more_named (add_declaration s x) l (at_end s (declaration_shape x.right) f (inl h.1.0)) h.1.1.1
+
+declarations_named : (d : declarations.Tree) → AreNamed (declarations.toks d) → AllByRecursion IsFine (declarations_shape d)
+declarations_named d h = more_named (declaration_shape d.left ∷ []) d.right (inl h.0, tt) h.1.1
+
+perhaps_named : (x : Either declarations.Tree Unit) → AreNamed (perhaps_declarations.toks x) → AllByRecursion IsFine (perhaps_declared x)
+perhaps_named (first x) h = declarations_named x h
+perhaps_named (other x) h = tt
+
+header_named : (x : header.Tree) → AreNamed (header.toks x) → AllByRecursion IsFine (header_shape x)
+header_named x h = perhaps_named x.right.left (front (perhaps_declarations.toks x.right.left) (at kind.Close x.right.right ∷ []) h.1)
+
+described_named : (x : Described) → AreNamed (header.toks x.left ++ (at kind.Colon x.right.left ∷ (form_toks x.right.right.left ++ at kind.Semicolon x.right.right.right ∷ []))) → All (λ d. IsVariableName d.name.left) (described_shape x).vars
+described_named x h = All-from_recursion IsFine (header_shape x.left) (header_named x.left (front (header.toks x.left) (at kind.Colon x.right.left ∷ (form_toks x.right.right.left ++ at kind.Semicolon x.right.right.right ∷ [])) h))
+
+-- where the name tokens of a `show` hold names, the variables that it declares have names of variables
+pub declared_are_named : (a : Statement) (c : ComprehensionShape) → statement_shape a ≡ Show c → AreNamed (whole_statement.toks a) → All (λ d. IsVariableName d.name.left) c.vars
+declared_are_named (first x) c e h = let f : described_shape x.right ≡ c = cc in subst (λ (c : ComprehensionShape). All (λ d. IsVariableName d.name.left) c.vars) f (described_named x.right h.1)
+declared_are_named (other (first x)) c e h = absurd (cc)
+declared_are_named (other (other (first x))) c e h = absurd (cc)
+declared_are_named (other (other (other (first x)))) c e h = absurd (cc)
+declared_are_named (other (other (other (other (first x))))) c e h = absurd (cc)
+declared_are_named (other (other (other (other (other (first x)))))) c e h = absurd (cc)
+declared_are_named (other (other (other (other (other (other (first x))))))) c e h = absurd (cc)
+declared_are_named (other (other (other (other (other (other (other (first x)))))))) c e h = absurd (cc)
+declared_are_named (other (other (other (other (other (other (other (other x)))))))) c e h = absurd (cc)
