@@ -1,5 +1,5 @@
 -- From the statement that tokens spell to the answer.
-use Rattle.std.proofs.Common.{◌≡◌, ℕ, ◌+◌, ◌≤◌, ◌<◌, List, [], ◌∷◌, length, map, get_or, Bool, true, false, arith, refl, sym, ap, ◌∙◌, subst, Option, None, Some}
+use Rattle.std.proofs.Common.{◌≡◌, ℕ, ◌+◌, ◌≤◌, ◌<◌, List, [], ◌∷◌, length, map, get_or, Bool, inl, inr, true, false, arith, refl, sym, ap, ◌∙◌, subst, Option, None, Some}
 use Rattle.std.specs.Prelude.{Result, Ok, Err, is_some}
 use Rattle.std.specs.Option.{option_map}
 use Rattle.std.specs.List.{All}
@@ -26,6 +26,9 @@ use Rattle.script_parse.specs.declared.errors.ScriptError.{ScriptError}
 use Rattle.script_parse.specs.declared.errors.ScriptError.TheVariants.{Read, Limit, Unbuilt, Syntax, Name, Memory}
 use Rattle.script_parse.proofs.Built.{built_is_show}
 use Rattle.script_parse.proofs.Sizes.{statement_small}
+use Rattle.script_parse.proofs.DeclaredNames.{declared_are_named}
+use Rattle.script_tokens.specs.Naming.{AreNamed}
+use Rattle.std.proofs.Math.ListN.{get_or-map}
 
 set_is : (s : StatementShape) (c : ComprehensionShape) → set_of s ≡ Some c → s ≡ Show c
 set_is (Show set) c e = ap Show (same_some set c e)
@@ -63,3 +66,7 @@ answered base end ts set (Err Unbuilt) h is = absurd is
 answered base end ts set (Err (Syntax place)) h is = absurd is
 answered base end ts set (Err (Name fault place)) h is = record { set = set; spells = h; is = is }
 answered base end ts set (Err Memory) h is = tt
+
+-- the names of its declared variables are variables' names
+pub set_named : (tokens : List Placed) (set : Comprehension) → Spells (map placed_of tokens) (comprehension_of set) → AreNamed (map placed_of tokens) → (k : ℕ) (d : Declaration) → k < length set.vars.items → IsVariableName (declaration_of (get_or set.vars.items k d)).name.left
+set_named tokens set h named k d lt = subst (λ x. IsVariableName x.name.left) (get_or-map declaration_of set.vars.items k d) (declared_are_named h.tree (comprehension_of set) h.shows (subst AreNamed h.read.spelled named) k (declaration_of d) (omega (arith, length-map set.vars.items declaration_of, lt)))

@@ -4,3 +4,4 @@ pub mod Built
 pub mod Sizes
 pub mod DeclaredNames
 pub mod Answering
+pub mod Stepping

@@ -1,5 +1,5 @@
 -- What the reader of statements answers, and what each answer says of the bytes ahead.
-use Rattle.std.specs.Prelude.{ℕ, zero, suc, ◌≡◌, ◌+◌, Bool, true, false, List, [], ◌∷◌, ◌++◌, length, take, Option, ◌⊎◌, None, Some, Result, Ok, Err, IfSome}
+use Rattle.std.specs.Prelude.{ℕ, zero, suc, ◌≡◌, ◌+◌, Bool, true, false, List, [], ◌∷◌, ◌++◌, length, take, drop, Option, ◌⊎◌, None, Some, Result, Ok, Err, IfSome}
 use Rattle.std.specs.Io.KnownBytes.{prepend_known, IsAtEnd}
 use Rattle.lash_model.specs.Formulas.{Sort, Formula}
 use Rattle.formula_core.specs.Shape.{formula_of}
@@ -10,9 +10,10 @@ use Rattle.script_grammar.specs.Statements.{whole_statement, Statement}
 use Rattle.script_statements.specs.Statements.{ComprehensionShape, StatementShape, statement_shape, Show, Set, Print, Solve, Test, Equal, Subset, Check, Loop}
 use Rattle.script_pieces.specs.Cuts.{statement_length, piece_length}
 use Rattle.script_pieces.specs.Limits.{IsWithin as IsWithinBytes}
-use Rattle.script_pieces.specs.Taking.{Progress, Takes}
+use Rattle.script_pieces.specs.Taking.{Progress, Takes, IsNeeded}
 use Rattle.script_pieces.specs.Answers.{IsRest, IsReadFault, IsTooLong}
-use Rattle.script_pieces.specs.declared.errors.PieceError.TheVariants.{StatementBytes as LongStatement, ScriptBytes as LongScript}
+use Rattle.script_pieces.specs.declared.errors.PieceError.{PieceError}
+use Rattle.script_pieces.specs.declared.errors.PieceError.TheVariants.{Read as FaultyRead, StatementBytes as LongStatement, ScriptBytes as LongScript}
 use Rattle.script_meaning.specs.Scopes.{with_declared}
 use Rattle.script_meaning.specs.Core.{core}
 use Rattle.script_meaning.specs.Faults.{shown_fault}
@@ -121,11 +122,10 @@ abbrev pub AnswersTokens : ℕ → ℕ → List PlacedToken → Result DeclaredS
 AnswersTokens base end ts (Ok s) = OfSet ts (λ set. Shows base set s)
 AnswersTokens base end ts (Err e) = AreRefused base end ts e
 
--- none where there is no token
-abbrev pub AnswersPiece : ℕ → ℕ → List ℕ → Result (Option DeclaredStatement) ScriptError → Type 0
-AnswersPiece base given piece (Ok None) = tokens_of given piece ≡ []
-AnswersPiece base given piece (Ok (Some s)) = OfSet (tokens_of given piece) (λ set. Shows base set s)
-AnswersPiece base given piece (Err e) = AreRefused base (given + length piece) (tokens_of given piece) e
+-- a rest without a whole statement is well where it has no token
+abbrev pub AnswersRest : {U : Type 0} → ℕ → ℕ → List ℕ → Result U ScriptError → Type 0
+AnswersRest base given piece (Ok u) = tokens_of given piece ≡ []
+AnswersRest base given piece (Err e) = AreRefused base (given + length piece) (tokens_of given piece) e
 
 -- a reader of statements: its base, how far it has come in the script, and whether it may go on
 pub record State : Type 0 where
@@ -138,11 +138,12 @@ pub record IsPiece (p : Progress) (left : Option (List ℕ)) (piece : List ℕ) 
   pub held : piece ≡ take (piece_length p.held) p.held
   pub ahead : IfSome (prepend_known p.held left) (λ bytes. piece ≡ take (piece_length bytes) bytes)
 
--- the first whole statement of the bytes ahead was given, and those behind it are still ahead
+-- the first whole statement of the bytes ahead was given, and those behind it are still ahead; no byte was taken that was not needed
 pub record IsNext (base : ℕ) (before after : Progress) (left_before left_after : Option (List ℕ)) (s : DeclaredStatement) : Type 0 where
   pub text : List ℕ
   pub taken : Takes before (record { given = before.given; held = text ++ after.held }) left_before left_after
   pub given : after.given ≡ before.given + length text
+  pub needed : IsNeeded before (record { given = before.given; held = text ++ after.held })
   pub whole : statement_length false text ≡ Some (length text)
   pub within : IsWithinBytes before.given (length text)
   pub shows : OfSet (tokens_of before.given text) (λ set. Shows base set s)
@@ -150,6 +151,7 @@ pub record IsNext (base : ℕ) (before after : Progress) (left_before left_after
 -- the source is at its end, and the bytes ahead hold no whole statement and no token, and keep within the limits
 pub record IsFinished (before after : Progress) (left_before left_after : Option (List ℕ)) : Type 0 where
   pub taken : Takes before after left_before left_after
+  pub needed : IsNeeded before after
   pub rest : IsRest after left_after
   pub blank : tokens_of after.given after.held ≡ []
 
@@ -168,9 +170,10 @@ IsCause base p left faults_before faults_after (Syntax place) = IsFirstRefused b
 IsCause base p left faults_before faults_after (Name fault place) = IsFirstRefused base p left (Name fault place)
 IsCause base p left faults_before faults_after Memory = Unit
 
--- nothing was given, and the reader does not go on
+-- nothing was given, and no byte was taken that was not needed
 pub record IsStopped (base : ℕ) (before after : Progress) (left_before left_after : Option (List ℕ)) (faults_before faults_after : ℕ) (e : ScriptError) : Type 0 where
   pub taken : Takes before after left_before left_after
+  pub needed : IsNeeded before after
   pub cause : IsCause base after left_after faults_before faults_after e
 
 abbrev pub Says : ℕ → Progress → Progress → Option (List ℕ) → Option (List ℕ) → ℕ → ℕ → Result (Option DeclaredStatement) ScriptError → Type 0
@@ -183,3 +186,21 @@ abbrev pub goes_on : Result (Option DeclaredStatement) ScriptError → Bool
 goes_on (Ok None) = false
 goes_on (Ok (Some s)) = true
 goes_on (Err e) = false
+
+-- the error of a piece that was not fetched
+abbrev pub error_of : PieceError → ScriptError
+error_of FaultyRead = Read
+error_of LongStatement = Limit StatementBytes
+error_of LongScript = Limit ScriptBytes
+
+-- the statement that is held was given, or the reader stays
+abbrev pub GivesStatement : State → ℕ → State → Result (Option DeclaredStatement) ScriptError → Type 0
+GivesStatement before size after (Ok None) = ⊥
+GivesStatement before size after (Ok (Some s)) = (after ≡ record { base = before.base; progress = record { given = before.progress.given + size; held = drop size before.progress.held }; live = true }) × OfSet (tokens_of before.progress.given (take size before.progress.held)) (λ set. Shows before.base set s)
+GivesStatement before size after (Err e) = (after ≡ before) × AreRefused before.base (before.progress.given + length (take size before.progress.held)) (tokens_of before.progress.given (take size before.progress.held)) e
+
+-- there is no token in what is held, or it is refused
+abbrev pub EndsRest : State → Result (Option DeclaredStatement) ScriptError → Type 0
+EndsRest s (Ok None) = tokens_of s.progress.given s.progress.held ≡ []
+EndsRest s (Ok (Some t)) = ⊥
+EndsRest s (Err e) = AreRefused s.base (s.progress.given + length s.progress.held) (tokens_of s.progress.given s.progress.held) e

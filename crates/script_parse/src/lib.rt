@@ -3,8 +3,10 @@
 
 mod errors;
 mod piece;
+mod reader;
 mod statement;
 mod unbuilt;
 
 pub use errors::ScriptError;
+pub use reader::Statements;
 pub use statement::Statement;

@@ -1,12 +1,13 @@
 //! What a piece of a script says.
 
-ghost use Rattle.std.specs.Prelude.{◌≡◌, ◌≤◌, ◌<◌, ◌+◌, ◌^◌, false, All, length, map};
+ghost use Rattle.std.specs.Prelude.{◌≡◌, ◌≤◌, ◌<◌, ◌+◌, ◌^◌, false, All, None, length, map};
 ghost use Rattle.formula_core.specs.Names.{IsVariableName};
 ghost use Rattle.script_tokens.specs.Shape.{placed_of};
 ghost use Rattle.script_meaning.specs.Limits.{size_of, terms_limit};
-ghost use Rattle.script_parse.specs.Unbuilt.{has_unbuilt};
-ghost use Rattle.script_parse.specs.Named.{AreNamed};
-ghost use Rattle.script_parse.specs.Answers.{AnswersPiece, AnswersTokens, AnswersSet, place_at, set_of};
+ghost use Rattle.script_tokens.specs.Lexing.{tokens_of};
+ghost use Rattle.script_pieces.specs.Cuts.{statement_length};
+ghost use Rattle.script_tokens.specs.Naming.{AreNamed};
+ghost use Rattle.script_parse.specs.Answers.{AnswersRest, AnswersTokens, AnswersSet, place_at, set_of};
 ghost use Rattle.std.specs.Option.{option_map};
 ghost use Rattle.script_statements.specs.Statements.{comprehension_of, statement_of};
 ghost use Rattle.script_syntax.specs.Trees.{declaration_of, tree_of};
@@ -20,27 +21,45 @@ use script_statements::{Comprehension, Refusal, Statement as Tree, read_statemen
 use script_tokens::{Placed, tokens};
 use std::alloc::Global;
 
-/// The statement that the bytes of a piece spell; None where they hold no token. The piece stands behind `given` script bytes, and has
-/// at most 65,536 bytes.
+/// The statement that the bytes of a piece spell. The piece stands behind `given` script bytes, and has at most 65,536 bytes.
 pub fn read_piece(
     alloc: Global,
     base: Base,
     piece: &[u8],
     given: u64,
-) -> Result<Option<Statement>, ScriptError>
+) -> Result<Statement, ScriptError>
     requires few { length piece.now ≤ 65536 }
     requires place { given ≤ 2 ^ 32 }
-    ensures { AnswersPiece base given piece.now result }
+    ensures { AnswersTokens base (given + length piece.now) (tokens_of given piece.now) result }
+{
+    match tokens(alloc, piece, given) {
+        Ok(tokens) => read_tokens(alloc, base, &tokens, given + piece.len() as u64),
+        Err(_) => Err(ScriptError::Memory),
+    }
+}
+
+/// The same of bytes that hold no whole statement. They are well where they hold no token.
+pub fn read_rest(
+    alloc: Global,
+    base: Base,
+    piece: &[u8],
+    given: u64,
+) -> Result<(), ScriptError>
+    requires few { length piece.now ≤ 65536 }
+    requires place { given ≤ 2 ^ 32 }
+    requires unended { statement_length false piece.now ≡ None }
+    ensures { AnswersRest base given piece.now result }
 {
     let tokens = match tokens(alloc, piece, given) {
         Ok(tokens) => tokens,
         Err(_) => return Err(ScriptError::Memory),
     };
     if tokens.is_empty() {
-        return Ok(None);
+        return Ok(());
     }
     match read_tokens(alloc, base, &tokens, given + piece.len() as u64) {
-        Ok(statement) => Ok(Some(statement)),
+        // Each statement ends with a semicolon, and the tokens hold none.
+        Ok(_) => Ok(()),
         Err(error) => Err(error),
     }
 }
