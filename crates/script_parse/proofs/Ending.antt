@@ -160,8 +160,10 @@ sign_passed b bs (Some k) e h = let found = sign_found SIGNS (b ∷ bs) k signs_
     semicolon_first : (s : List ℕ) → first_is_semicolon s ≡ true → starts_with nat_eq (b ∷ bs) s ≡ true → b ≡ 59
     semicolon_first [] e at = absurd (false≢true e)
     semicolon_first (c ∷ s) e at = sym (eqb-true c b (and_left (nat_eq c b) (starts_with nat_eq bs s) at)) ∙ eqb-true c 59 e
+
     never : b ≡ 59 → ⊥
     never is = some_is_none (subst (λ x. Unended (x ∷ bs)) is h)
+
     by : (c : Bool) → same_kind k kind.Semicolon ≡ c → cond c (first_is_semicolon (spelled k)) (list_all is_plain (spelled k)) ≡ true → starts_with nat_eq (b ∷ bs) (spelled k) ≡ true → IsPassed b bs (sign_lexeme (Some k))
     by true q clear at = absurd (never (semicolon_first (spelled k) clear at))
     by false q clear at = record { other_token = q; behind = λ _. behind_spelling (spelled k) (b ∷ bs) at clear h }

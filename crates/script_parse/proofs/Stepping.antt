@@ -31,6 +31,7 @@ statement_piece p left size h = record { held = ap (λ n. take n p.held) (sized 
   where
     sized : (bytes : List ℕ) → statement_length false bytes ≡ Some size → size ≡ piece_length bytes
     sized bytes e = ap (λ o. unwrap_or o (length bytes)) (sym e)
+
     by : (left : Option (List ℕ)) → IfSome (prepend_known p.held left) (λ bytes. take size p.held ≡ take (piece_length bytes) bytes)
     by None = tt
     by (Some more) = sym (take-append-le size p.held more h.inside) ∙ ap (λ n. take n (p.held ++ more)) (sized (p.held ++ more) (stable false p.held more size h.whole))
@@ -42,8 +43,10 @@ rest_piece p left h = record { held = all p.held h.unended.unended; ahead = by l
     whole : (xs : List ℕ) → xs ≡ take (length xs) xs
     whole [] = refl
     whole (x ∷ xs) = ap (λ ys. x ∷ ys) (whole xs)
+
     all : (bytes : List ℕ) → statement_length false bytes ≡ None → bytes ≡ take (piece_length bytes) bytes
     all bytes e = whole bytes ∙ ap (λ o. take (unwrap_or o (length bytes)) bytes) (sym e)
+
     by : (left : Option (List ℕ)) → IsAtEnd left → IfSome (prepend_known p.held left) (λ bytes. p.held ≡ take (piece_length bytes) bytes)
     by None e = tt
     by (Some more) e = subst (λ bytes. p.held ≡ take (piece_length bytes) bytes) (sym (append-nil p.held) ∙ ap (λ xs. p.held ++ xs) (sym e)) (all p.held h.unended.unended)

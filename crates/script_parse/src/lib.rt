@@ -10,3 +10,6 @@ mod unbuilt;
 pub use errors::ScriptError;
 pub use reader::Statements;
 pub use statement::Statement;
+
+#[cfg(test)]
+mod tests;

@@ -39,12 +39,7 @@ pub fn read_piece(
 }
 
 /// The same of bytes that hold no whole statement. They are well where they hold no token.
-pub fn read_rest(
-    alloc: Global,
-    base: Base,
-    piece: &[u8],
-    given: u64,
-) -> Result<(), ScriptError>
+pub fn read_rest(alloc: Global, base: Base, piece: &[u8], given: u64) -> Result<(), ScriptError>
     requires few { length piece.now ≤ 65536 }
     requires place { given ≤ 2 ^ 32 }
     requires unended { statement_length false piece.now ≡ None }
@@ -84,16 +79,12 @@ fn read_tokens(
             // Each other statement begins with a keyword that is not built.
             None => Err(ScriptError::Unbuilt),
         },
-        Err(Refusal::Syntax { at }) => Err(
-            ScriptError::Syntax {
-                place: place_of(tokens, at, end),
-            },
-        ),
-        Err(Refusal::Nesting { .. }) => Err(
-            ScriptError::Limit {
-                which: Which::Nesting,
-            },
-        ),
+        Err(Refusal::Syntax { at }) => Err(ScriptError::Syntax {
+            place: place_of(tokens, at, end),
+        }),
+        Err(Refusal::Nesting { .. }) => Err(ScriptError::Limit {
+            which: Which::Nesting,
+        }),
         Err(Refusal::Memory) => Err(ScriptError::Memory),
     }
 }
@@ -126,12 +117,10 @@ fn resolved(alloc: Global, base: Base, set: &Comprehension<'_>) -> Result<Statem
     ensures { AnswersSet base (comprehension_of set.now) result }
 {
     match resolve(alloc, base, &set.vars, &set.formula) {
-        Ok(resolved) => Ok(
-            Statement::Show {
-                vars: resolved.vars,
-                formula: resolved.formula,
-            },
-        ),
+        Ok(resolved) => Ok(Statement::Show {
+            vars: resolved.vars,
+            formula: resolved.formula,
+        }),
         Err(SetRefusal::Fault(FaultAt { fault, place })) => Err(ScriptError::Name { fault, place }),
         Err(SetRefusal::Limit(which)) => Err(ScriptError::Limit { which }),
         Err(SetRefusal::Memory) => Err(ScriptError::Memory),

@@ -79,16 +79,17 @@ impl Statements {
     }
 
     // The statement of so many bytes that is held.
-    fn statement(
-        &mut self,
-        alloc: Global,
-        size: usize,
-    ) -> Result<Option<Statement>, ScriptError>
+    fn statement(&mut self, alloc: Global, size: usize) -> Result<Option<Statement>, ScriptError>
         requires ahead { IsStatement self.old.progress size }
         requires dead { self.old.live ≡ false }
         ensures { GivesStatement self.old size self.new result }
     {
-        match read_piece(alloc, self.base, &self.pieces.held()[..size], self.pieces.given()) {
+        match read_piece(
+            alloc,
+            self.base,
+            &self.pieces.held()[..size],
+            self.pieces.given(),
+        ) {
             Ok(statement) => {
                 self.pieces.give(size);
                 self.live = true;
