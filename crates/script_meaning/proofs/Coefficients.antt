@@ -1,6 +1,6 @@
 -- The sum of the magnitudes of coefficients, as coefficients are added.
 use Rattle.std.proofs.lemmas.List.{drop_more}
-use Rattle.std.proofs.Common.{◌≡◌, ℕ, zero, suc, ◌+◌, ◌*◌, ◌^◌, ◌≤◌, ◌<◌, List, [], ◌∷◌, length, drop, get_or, ap, arith, refl, cond, true, false, Bool, nat_eq, nat_lt, unsigned_abs}
+use Rattle.std.proofs.Common.{◌≡◌, ℕ, zero, suc, ◌+◌, ◌*◌, ◌^◌, ◌≤◌, ◌<◌, List, [], ◌∷◌, length, drop, get_or, ap, arith, refl, cond, nat_eq, nat_lt, unsigned_abs}
 use Rattle.std.proofs.Math.IntN.{ℤ, pos, ◌+ℤ◌}
 use Rattle.std.specs.Ordering.{int_eq}
 use Rattle.std.proofs.lemmas.Bool.{cond_both}
@@ -28,8 +28,8 @@ added_within [] place c = front_within place c []
 added_within (t ∷ ts) place c = cond_both (nat_lt t.0 place) (t ∷ added ts place c) (cond (nat_lt place t.0) (in_front place c (t ∷ ts)) (in_front place (t.1 +ℤ c) ts)) (λ us. coefficient_sum us ≤ coefficient_sum (t ∷ ts) + unsigned_abs c)
     (λ _. let rec = added_within ts place c in omega (arith, rec))
     (λ _. cond_both (nat_lt place t.0) (in_front place c (t ∷ ts)) (in_front place (t.1 +ℤ c) ts) (λ us. coefficient_sum us ≤ coefficient_sum (t ∷ ts) + unsigned_abs c)
-      (λ _. front_within place c (t ∷ ts))
-      (λ _. omega (arith, front_within place (t.1 +ℤ c) ts, sum_abs t.1 c)))
+    (λ _. front_within place c (t ∷ ts))
+    (λ _. omega (arith, front_within place (t.1 +ℤ c) ts, sum_abs t.1 c)))
 
 -- a coefficient that is added to few others is far below the limit of a term
 pub far_below : (ts : List (ℕ × ℤ)) (place : ℕ) (c : ℤ) → coefficient_sum ts ≤ 2 * 65536 * 2 ^ 64 → unsigned_abs c ≤ 2 ^ 64 → unsigned_abs (coefficient_at ts place +ℤ c) ≤ 2 ^ 113

@@ -1,12 +1,11 @@
 -- Counts of nodes that stop at a limit.
-use Rattle.std.proofs.Common.{◌≡◌, ℕ, suc, ◌+◌, ◌*◌, ◌≤◌, ◌<◌, List, [], ◌∷◌, length, arith, refl, ap, ◌∙◌, sym}
-use Rattle.std.specs.Prelude.{min, max}
+use Rattle.std.proofs.Common.{◌≡◌, ◌+◌, ◌*◌, List, [], ◌∷◌, length, arith, refl}
 use Rattle.lash_model.specs.Formulas.{Formula}
-use Rattle.formula_core.specs.Counts.{nodes_of, depth_of, count_limit}
+use Rattle.formula_core.specs.Counts.{nodes_of, depth_of}
 use Rattle.script_grammar.specs.Views.{Relation, AtMost, Below, AtLeast, Above, Equal, Unequal, Quantifier, Exists, Forall}
 use Rattle.script_syntax.specs.Trees.{SignedShape, DeclarationShape}
 use Rattle.script_meaning.specs.Scopes.{Scope}
-use Rattle.script_meaning.specs.Core.{compared, bound_all, bound}
+use Rattle.script_meaning.specs.Core.{compared, bound_all}
 use Rattle.script_meaning.specs.Counts.{compared_nodes, bound_nodes}
 
 pub compared_count : (scope : Scope) (a : List SignedShape) (r : Relation) (b : List SignedShape) → nodes_of (compared scope a r b) ≡ compared_nodes r

@@ -1,5 +1,5 @@
 -- Declarations in their order.
-use Rattle.std.proofs.Common.{◌≡◌, ℕ, ◌+◌, ◌≤◌, List, [], ◌∷◌, ◌++◌, length, take, map, arith, refl, ap, ◌∙◌, sym, append_assoc, Option, None, Some}
+use Rattle.std.proofs.Common.{◌≡◌, ℕ, ◌+◌, ◌≤◌, List, [], ◌∷◌, ◌++◌, length, take, map, arith, refl, ap, ◌∙◌, sym, append_assoc, None}
 use Rattle.std.proofs.lemmas.List.{take-append-le, length-append, drop_more}
 use Rattle.std.proofs.Common.{get_or, drop, ◌<◌, subst}
 use Rattle.script_syntax.specs.declared.tree.Declaration.{Declaration}

@@ -1,15 +1,14 @@
 -- A name without a place is not among the names.
-use Rattle.std.proofs.Common.{◌≡◌, ℕ, zero, suc, ◌+◌, ◌≤◌, ◌<◌, List, [], ◌∷◌, length, drop, map, get_or, arith, refl, ap, ap₂, ◌∙◌, ◌&&◌, sym, subst, Bool, true, false, cond, not, ltb, eqb, nat_eq, Option, None, Some}
-use Rattle.std.specs.List.{position, prefix_len}
+use Rattle.std.proofs.Common.{◌≡◌, ℕ, zero, suc, ◌+◌, ◌≤◌, ◌<◌, List, [], ◌∷◌, length, drop, map, get_or, arith, refl, ap, ap₂, ◌∙◌, ◌&&◌, sym, Bool, true, false, cond, not, ltb, nat_eq, Option, None, Some}
+use Rattle.std.specs.List.{prefix_len}
 use Rattle.std.specs.Prelude.{is_some}
 use Rattle.std.specs.Cmp.Lexicographic.{pointwise}
 use Rattle.std.proofs.lemmas.Bool.{ltb-false, eq-eqb, true≢false}
 use Rattle.std.proofs.lemmas.List.{drop_more}
-use Rattle.lash_model.specs.Formulas.{Sort}
 use Rattle.formula_core.specs.Variables.{names_of}
 use Rattle.script_syntax.specs.Trees.{DeclarationShape, Named, declaration_of}
 use Rattle.script_syntax.specs.declared.tree.Declaration.{Declaration}
-use Rattle.script_meaning.specs.Scopes.{Scope, place_of, variable_of}
+use Rattle.script_meaning.specs.Scopes.{Scope, place_of}
 use Rattle.script_meaning.specs.Faults.{or_else, repeated, declared_fault}
 use Rattle.script_meaning.specs.declared.names.FaultAt.{FaultAt}
 use Rattle.script_meaning.proofs.Declaring.{IsDeclaring}

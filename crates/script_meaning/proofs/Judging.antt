@@ -1,7 +1,7 @@
 -- What is found of the atoms of formulas, from that of their parts.
-use Rattle.std.proofs.Common.{◌≡◌, List, [], ◌∷◌, refl, ap, ap₂, ◌∙◌, sym, Bool, true, false, ◌||◌}
+use Rattle.std.proofs.Common.{◌≡◌, List, [], ◌∷◌, refl, ap₂, ◌∙◌, sym, Bool, true, false, ◌||◌}
 use Rattle.std.specs.Prelude.{IfOk, Result, Ok, Err}
-use Rattle.lash_model.specs.Formulas.{Linear, Formula, Not, And, Or, coefficient_sum}
+use Rattle.lash_model.specs.Formulas.{Linear, Formula, And, coefficient_sum}
 use Rattle.script_grammar.specs.Views.{Relation, AtMost, Below, AtLeast, Above, Equal, Unequal, Quantifier, Exists, Forall}
 use Rattle.script_syntax.specs.Trees.{SignedShape, DeclarationShape}
 use Rattle.script_meaning.specs.Scopes.{Scope}

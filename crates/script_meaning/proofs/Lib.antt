@@ -4,3 +4,5 @@ pub mod Counting
 pub mod Judging
 pub mod Declaring
 pub mod Fresh
+pub mod Valuing
+pub mod Connecting

@@ -1,7 +1,7 @@
 -- Lists of variables.
-use Rattle.std.proofs.Common.{◌≡◌, ℕ, ◌+◌, List, [], ◌∷◌, ◌++◌, map, length, refl, ap, ap₂, ◌∙◌, sym, Bool, true, false, cond, not, arith, ltb}
-use Rattle.std.specs.List.{position, prefix_len, position_or_len}
-use Rattle.std.specs.Prelude.{Some, None, Option}
+use Rattle.std.proofs.Common.{◌≡◌, ℕ, ◌+◌, List, [], ◌∷◌, map, refl, ap, ap₂, ◌∙◌, sym, Bool, cond, not, ltb}
+use Rattle.std.specs.List.{position, prefix_len}
+use Rattle.std.specs.Prelude.{Some, None}
 use Rattle.std.specs.Map.{keys_of, lookup}
 use Rattle.std.proofs.lemmas.List.{length-map}
 use Rattle.std.proofs.Common.{Bor, nat_eq}
@@ -19,7 +19,6 @@ prefix_map f test (x ∷ xs) = ap (λ n. cond (test (f x)) (1 + n) 0) (prefix_ma
 -- a position goes by the images
 pub position_map : {A B : Type 0} (f : A → B) (test : B → Bool) (xs : List A) → position (λ x. test (f x)) xs ≡ position test (map f xs)
 position_map f test xs = ap₂ (λ n k. cond (ltb n k) (Some n) None) (prefix_map f (λ y. not (test y)) xs) (sym (length-map xs f))
-
 
 -- an entry of the map, as a variable
 abbrev pub entry_of : Bor (List ℕ) × DeclaredSort → List ℕ × Sort

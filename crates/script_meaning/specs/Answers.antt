@@ -1,8 +1,8 @@
 -- What the judges of names and limits answer.
-use Rattle.std.specs.Prelude.{◌≡◌, ◌≢◌, ℕ, ◌≤◌, List, [], ◌∷◌, ◌++◌, take, length, map, Option, None, Some, Result, Ok, Err}
-use Rattle.script_syntax.specs.Trees.{DeclarationShape, TreeShape}
+use Rattle.std.specs.Prelude.{◌≡◌, ◌≤◌, List, [], ◌∷◌, ◌++◌, take, length, Option, None, Some, Result, Ok, Err}
+use Rattle.script_syntax.specs.Trees.{DeclarationShape}
 use Rattle.script_meaning.specs.Scopes.{Scope, place_of, variable_of, with_declared}
-use Rattle.script_meaning.specs.Faults.{or_else, repeated, declared_fault}
+use Rattle.script_meaning.specs.Faults.{repeated, declared_fault}
 use Rattle.script_meaning.specs.declared.names.FaultAt.{FaultAt}
 use Rattle.script_meaning.specs.declared.names.NameError.{NameError}
 use Rattle.script_meaning.specs.declared.names.NameError.TheVariants.{Fault, Memory}

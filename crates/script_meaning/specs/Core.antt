@@ -1,5 +1,5 @@
 -- The core formula that a tree stands for.
-use Rattle.std.specs.Prelude.{ℕ, List, [], ◌∷◌, map, Bool, true, false, not, Option, None, Some, ℤ, pos, negsuc, neg_ℤ, ◌+ℤ◌, ◌-ℤ◌, if◌then◌else◌}
+use Rattle.std.specs.Prelude.{ℕ, List, [], ◌∷◌, Bool, true, false, not, Option, None, Some, ℤ, pos, negsuc, neg_ℤ, ◌+ℤ◌, ◌-ℤ◌, if◌then◌else◌}
 use Rattle.lash_model.specs.Formulas.{Sort, Linear, Formula, Le, Eq, Not as CoreNot, And as CoreAnd, Or as CoreOr, Exists as CoreExists}
 use Rattle.formula_core.specs.Terms.{added}
 use Rattle.script_grammar.specs.Views.{Relation, AtMost, Below, AtLeast, Above, Equal, Unequal, Quantifier, Exists, Forall}

@@ -6,4 +6,5 @@ pub mod Passing
 pub mod Resolving
 pub mod Counts
 pub mod Answers
+pub mod Values
 pub use Rattle.script_syntax.specs.Trees

@@ -1,7 +1,6 @@
 -- The limits of a formula, in the order in which they are judged.
-use Rattle.std.specs.Prelude.{ℕ, ◌+◌, ◌^◌, Bool, false, ◌||◌, not, nat_lt, List, [], ◌∷◌, length, Option, None, Some, unsigned_abs, if◌then◌else◌}
+use Rattle.std.specs.Prelude.{ℕ, ◌+◌, ◌^◌, Bool, false, ◌||◌, nat_lt, List, [], ◌∷◌, length, unsigned_abs}
 use Rattle.lash_model.specs.Formulas.{Linear, coefficient_sum, Formula, Le, Eq, Not as CoreNot, And as CoreAnd, Or as CoreOr, Exists as CoreExists}
-use Rattle.formula_core.specs.Counts.{nodes_of, depth_of}
 use Rattle.script_syntax.specs.Trees.{PartShape, Constant, Scaled, Variable, SignedShape, TreeShape, Truth, Compare, Call, Not, And, Or, Implies, Equivalent, Quantified}
 
 -- the greatest number that a script may have

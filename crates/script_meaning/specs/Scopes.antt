@@ -1,5 +1,5 @@
 -- The variables that a formula may name, with their sorts. The place of a variable in the list is its place in the core formula.
-use Rattle.std.specs.Prelude.{ℕ, nat_eq, List, [], ◌∷◌, ◌++◌, map, Option, position}
+use Rattle.std.specs.Prelude.{ℕ, nat_eq, List, ◌++◌, map, Option, position}
 use Rattle.std.specs.Cmp.Lexicographic.{pointwise}
 use Rattle.lash_model.specs.Formulas.{Sort}
 use Rattle.script_syntax.specs.Trees.{DeclarationShape}

@@ -102,11 +102,7 @@ pub fn judge_atoms<'a>(
 
 // The same of a formula that is no list of `and` or `or`.
 #[cycle(atoms)]
-fn judge_unit<'a>(
-    alloc: Global,
-    scope: &mut Scope<'a>,
-    tree: &Tree<'a>,
-) -> Result<Passed, Memory>
+fn judge_unit<'a>(alloc: Global, scope: &mut Scope<'a>, tree: &Tree<'a>) -> Result<Passed, Memory>
     requires literals { literal_passes (tree_of tree.now) ≡ false }
     requires size { length scope.old + size_of (tree_of tree.now) ≤ terms_limit }
     ensures judged { IfOk result (λ p. AreAtomsJudged p (core scope.old (tree_of tree.now))) }

@@ -63,9 +63,7 @@ fn unit_nodes(tree: &Tree<'_>) -> u64
         Tree::And(left, right) | Tree::Or(left, right) => nodes(left)
             .saturating_add(nodes(right))
             .saturating_add(1),
-        Tree::Implies(left, right) => nodes(left)
-            .saturating_add(nodes(right))
-            .saturating_add(2),
+        Tree::Implies(left, right) => nodes(left).saturating_add(nodes(right)).saturating_add(2),
         Tree::Equivalent(left, right) => {
             let both = nodes(left).saturating_add(nodes(right));
             both.saturating_add(both).saturating_add(5)
@@ -110,9 +108,7 @@ fn unit_depth(tree: &Tree<'_>) -> u64
             .saturating_add(1)
             .max(depth(right))
             .saturating_add(1),
-        Tree::Equivalent(left, right) => depth(left)
-            .max(depth(right))
-            .saturating_add(3),
+        Tree::Equivalent(left, right) => depth(left).max(depth(right)).saturating_add(3),
         Tree::Quantified(quantifier, declarations, inner) => with_bound(
             depth(inner),
             *quantifier,

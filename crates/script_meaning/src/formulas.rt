@@ -33,10 +33,7 @@ pub fn comparison_atom(
 {
     match relation {
         Relation::AtMost | Relation::Above | Relation::Equal | Relation::Unequal => difference(
-            alloc,
-            scope,
-            left,
-            right,
+            alloc, scope, left, right,
         ),
         Relation::AtLeast | Relation::Below => difference(alloc, scope, right, left),
     }

@@ -4,6 +4,7 @@
 mod atoms;
 mod counts;
 mod formulas;
+mod laws;
 mod limits;
 mod literals;
 mod names;
@@ -11,6 +12,12 @@ mod resolving;
 mod scope;
 mod terms;
 
+pub use laws::{
+    comparisons_compare_values, connectives_mean_themselves, limits_exclude_each_other,
+};
 pub use limits::Which;
 pub use names::{FaultAt, NameFault};
 pub use resolving::{Refusal, Resolved, resolve};
+
+#[cfg(test)]
+mod tests;

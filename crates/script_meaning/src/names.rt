@@ -128,14 +128,10 @@ fn check_unit<'a>(scope: &mut Scope<'a>, tree: &Tree<'a>) -> Result<(), NameErro
             Some(fault) => Err(NameError::Fault(fault)),
             None => as_answer(term_names(scope, right)),
         },
-        Tree::Call(name, _) => Err(
-            NameError::Fault(
-                FaultAt {
-                    fault: NameFault::Unknown,
-                    place: name.place,
-                },
-            ),
-        ),
+        Tree::Call(name, _) => Err(NameError::Fault(FaultAt {
+            fault: NameFault::Unknown,
+            place: name.place,
+        })),
         Tree::Not(inner) => check_names(scope, inner),
         Tree::And(left, right)
         | Tree::Or(left, right)

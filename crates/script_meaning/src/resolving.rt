@@ -109,6 +109,7 @@ fn static_limit<'a>(
 }
 
 const NODES_LIMIT: u64 = 4096;
+
 const DEPTH_LIMIT: u64 = 256;
 
 // Coefficients come before constants.

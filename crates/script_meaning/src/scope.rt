@@ -62,14 +62,10 @@ impl<'a> Scope<'a> {
         let name = declaration.name;
         match self.place(name.bytes) {
             Some(_) => {
-                return Err(
-                    NameError::Fault(
-                        FaultAt {
-                            fault: NameFault::Repeated,
-                            place: name.place,
-                        },
-                    ),
-                );
+                return Err(NameError::Fault(FaultAt {
+                    fault: NameFault::Repeated,
+                    place: name.place,
+                }));
             }
             None => {}
         }

@@ -97,12 +97,7 @@ fn add_part(
 }
 
 // Adds the coefficients of a term; where the side is turned they are taken away.
-fn add_term(
-    scope: &Scope<'_>,
-    atom: &mut Linear,
-    term: &Term<'_>,
-    turn: bool,
-) -> Result<(), Memory>
+fn add_term(scope: &Scope<'_>, atom: &mut Linear, term: &Term<'_>, turn: bool) -> Result<(), Memory>
     requires scope { length scope.now ≤ terms_limit }
     requires sum { coefficient_sum atom.old.terms ≤ terms_limit * 2 ^ 64 }
     requires literals { term_passes (term_of term.now) ≡ false }

@@ -1,4 +1,4 @@
-use Rattle.std.proofs.Common.{◌≡◌, ◌+◌, ◌*◌, sym, ap, ◌∙◌, map, length}
+use Rattle.std.proofs.Common.{◌+◌, ◌*◌, sym, ap, ◌∙◌, map, length}
 use Rattle.std.specs.Prelude.{min}
 use Rattle.formula_core.specs.Counts.{depth_of, count_limit}
 use Rattle.script_syntax.specs.Trees.{declaration_of, quantifier_of, tree_of}
@@ -10,11 +10,11 @@ use Rattle.script_meaning.proofs.counts.+depth.Goals as goal
 
 pub unit_depth-returns-in-Quantified : goal.unit_depth-returns-in-Quantified
 unit_depth-returns-in-Quantified t c = λ scope.
-  let ds = map declaration_of c.in-Quantified.declarations.items in
-  let q = quantifier_of c.in-Quantified.quantifier in
-  let body = core (with_declared scope ds) (tree_of c.in-Quantified.inner.value) in
-  let inner = c.depth-in-Quantified.ensures (with_declared scope ds) ∙ ap (λ f. min (depth_of (core (with_declared scope ds) (tree_of f))) count_limit) c.deref-in-Quantified.ensures in
-  c.with_bound.ensures (depth_of body) inner
+    let ds = map declaration_of c.in-Quantified.declarations.items in
+    let q = quantifier_of c.in-Quantified.quantifier in
+    let body = core (with_declared scope ds) (tree_of c.in-Quantified.inner.value) in
+    let inner = c.depth-in-Quantified.ensures (with_declared scope ds) ∙ ap (λ f. min (depth_of (core (with_declared scope ds) (tree_of f))) count_limit) c.deref-in-Quantified.ensures in
+    c.with_bound.ensures (depth_of body) inner
     ∙ ap (λ xs. min (depth_of body + bound_nodes q * length (map declaration_of xs)) count_limit) c.deref-in-Quantified-2.ensures.value
     ∙ ap (λ n. min n count_limit) (sym (bound_depth q ds body))
     ∙ ap (λ f. min (depth_of (core scope (tree_of f))) count_limit) (sym c.in-Quantified.is)

@@ -1,4 +1,4 @@
-use Rattle.std.proofs.Common.{rules, arith, ap, ◌∙◌, ◌≡◌, ◌≤◌}
+use Rattle.std.proofs.Common.{arith, ap}
 use Rattle.lash_model.specs.Formulas.{coefficient_sum}
 use Rattle.script_meaning.proofs.Coefficients.{none_is_zero}
 use Rattle.script_meaning.proofs.terms.difference.Goals as goal

@@ -1,4 +1,4 @@
-use Rattle.std.proofs.Common.{◌≡◌, sym, ap, ◌∙◌, take, map}
+use Rattle.std.proofs.Common.{sym, ap, ◌∙◌, take, map}
 use Rattle.std.proofs.lemmas.List.{take-map}
 use Rattle.script_meaning.proofs.Lists.{entry_of}
 use Rattle.script_meaning.proofs.scope.Scope.leave.Goals as goal

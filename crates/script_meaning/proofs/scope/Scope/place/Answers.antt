@@ -1,4 +1,4 @@
-use Rattle.std.proofs.Common.{◌≡◌, sym, ◌∙◌, ap}
+use Rattle.std.proofs.Common.{◌∙◌, ap}
 use Rattle.script_meaning.specs.Scopes.{place_of}
 use Rattle.script_meaning.proofs.Lists.{places_agree}
 use Rattle.script_meaning.proofs.scope.Scope.place.Goals as goal
