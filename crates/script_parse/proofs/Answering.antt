@@ -1,26 +1,22 @@
 -- From the statement that tokens spell to the answer.
-use Rattle.std.proofs.Common.{◌≡◌, ℕ, ◌+◌, ◌≤◌, ◌<◌, List, [], ◌∷◌, length, map, get_or, Bool, inl, inr, true, false, arith, refl, sym, ap, ◌∙◌, subst, Option, None, Some}
-use Rattle.std.specs.Prelude.{Result, Ok, Err, is_some}
+use Rattle.std.proofs.Common.{◌≡◌, ℕ, ◌+◌, ◌≤◌, ◌<◌, List, length, map, get_or, Bool, inr, true, false, arith, refl, sym, ap, ◌∙◌, subst, Option, None, Some}
+use Rattle.std.specs.Prelude.{Result, Ok, Err}
 use Rattle.std.specs.Option.{option_map}
-use Rattle.std.specs.List.{All}
-use Rattle.std.proofs.lemmas.Bool.{true≢false}
 use Rattle.std.proofs.lemmas.List.{length-map}
-use Rattle.parser_laws.specs.Places.{IsRead}
 use Rattle.parser_laws.proofs.Parts.{same_some, not_none}
 use Rattle.formula_core.specs.Names.{IsVariableName}
 use Rattle.script_tokens.specs.Tokens.{PlacedToken}
 use Rattle.script_tokens.specs.Shape.{placed_of}
 use Rattle.script_tokens.specs.declared.token.Placed.{Placed}
-use Rattle.script_grammar.specs.Statements.{whole_statement, Statement}
-use Rattle.script_syntax.specs.Trees.{declaration_of, named_of, tree_of}
+use Rattle.script_syntax.specs.Trees.{declaration_of, tree_of}
 use Rattle.script_syntax.specs.declared.tree.Declaration.{Declaration}
-use Rattle.script_statements.specs.Statements.{ComprehensionShape, StatementShape, statement_shape, statement_of, comprehension_of, Show, Set, Print, Solve, Test, Equal, Subset, Check, Loop}
+use Rattle.script_statements.specs.Statements.{ComprehensionShape, StatementShape, statement_of, comprehension_of, Show, Set, Print, Solve, Test, Equal, Subset, Check, Loop}
 use Rattle.script_statements.specs.Outcomes.{Spells as StatementSpells}
 use Rattle.script_statements.specs.declared.tree.Comprehension.{Comprehension}
 use Rattle.script_statements.specs.declared.tree.Statement.{Statement as DeclaredTree}
 use Rattle.script_meaning.specs.Limits.{size_of, terms_limit}
 use Rattle.script_parse.specs.Unbuilt.{has_unbuilt}
-use Rattle.script_parse.specs.Answers.{Spells, OfSet, AnswersSet, AnswersTokens, set_of}
+use Rattle.script_parse.specs.Answers.{Spells, AnswersSet, AnswersTokens, set_of}
 use Rattle.script_parse.specs.declared.statement.Statement.{Statement as DeclaredStatement}
 use Rattle.script_parse.specs.declared.errors.ScriptError.{ScriptError}
 use Rattle.script_parse.specs.declared.errors.ScriptError.TheVariants.{Read, Limit, Unbuilt, Syntax, Name, Memory}

@@ -1,6 +1,6 @@
 -- A rest without a whole statement has no semicolon among its tokens, and each whole statement that shows a set has one.
 use Rattle.std.proofs.Common.{◌≡◌, ℕ, zero, suc, ◌+◌, List, [], ◌∷◌, ◌++◌, length, take, drop, Bool, true, false, cond, not, ◌&&◌, ◌||◌, nat_eq, arith, refl, sym, ap, ◌∙◌, subst, Option, None, Some}
-use Rattle.std.specs.Prelude.{◌==◌, is_some}
+use Rattle.std.specs.Prelude.{is_some}
 use Rattle.std.specs.Option.{option_map}
 use Rattle.std.specs.List.{prefix_len, starts_with, list_all}
 use Rattle.std.specs.Cmp.Lexicographic.{pointwise}
@@ -12,8 +12,8 @@ use Rattle.script_tokens.specs.declared.kind.Kind.{Kind}
 use Rattle.script_tokens.specs.declared.kind.Kind.TheVariants as kind
 use Rattle.script_tokens.specs.declared.kind.TheConstants.{KEYWORDS, SIGNS}
 use Rattle.script_tokens.specs.Kinds.{spelled}
-use Rattle.script_tokens.specs.Tokens.{Token, Name, Number, Sign, Bad, PlacedToken}
-use Rattle.script_tokens.specs.Lexing.{is_blank, word_token, blank_length, keyword_in, sign_in, Lexeme, lexeme, is_bad, word_lexeme, number_lexeme, sign_lexeme, token_then, after_blanks, lexed, tokens_of}
+use Rattle.script_tokens.specs.Tokens.{PlacedToken}
+use Rattle.script_tokens.specs.Lexing.{is_blank, word_token, blank_length, keyword_in, sign_in, Lexeme, lexeme, is_bad, word_lexeme, number_lexeme, sign_lexeme, after_blanks, lexed, tokens_of}
 use Rattle.script_grammar.specs.Views.{is_kind, same_kind, at}
 use Rattle.script_grammar.specs.Formulas.{form_toks}
 use Rattle.script_grammar.specs.Statements.{whole_statement, Statement, header}

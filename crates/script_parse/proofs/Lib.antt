@@ -5,3 +5,4 @@ pub mod Sizes
 pub mod DeclaredNames
 pub mod Answering
 pub mod Stepping
+pub mod Excluding

@@ -1,21 +1,21 @@
 -- From what was fetched, and what a piece answers, to what the reader says.
-use Rattle.std.proofs.Common.{◌≡◌, ℕ, zero, suc, ◌+◌, ◌≤◌, List, [], ◌∷◌, ◌++◌, length, take, drop, Bool, true, false, arith, refl, sym, ap, ap₂, ◌∙◌, subst, inl, inr, append-nil, Option, None, Some}
+use Rattle.std.proofs.Common.{◌≡◌, ℕ, zero, suc, ◌+◌, ◌≤◌, List, [], ◌∷◌, ◌++◌, length, take, drop, false, arith, refl, sym, ap, ap₂, ◌∙◌, subst, inl, inr, append-nil, Option, None, Some}
 use Rattle.std.specs.Prelude.{Result, Ok, Err, IfSome, unwrap_or}
 use Rattle.std.specs.Io.KnownBytes.{prepend_known, IsAtEnd}
-use Rattle.std.proofs.lemmas.List.{take-append-drop, take-append-le, length-take}
+use Rattle.std.proofs.lemmas.List.{take-append-drop, take-append-le}
 use Rattle.std.proofs.lemmas.Bool.{true≢false}
 use Rattle.script_tokens.specs.Tokens.{PlacedToken}
 use Rattle.script_tokens.specs.Lexing.{tokens_of}
 use Rattle.script_pieces.specs.Cuts.{statement_length, piece_length}
 use Rattle.script_pieces.specs.Limits.{IsWithin}
-use Rattle.script_pieces.specs.Taking.{Progress, Takes, IsNeeded, IsOpen}
+use Rattle.script_pieces.specs.Taking.{Progress, Takes, IsNeeded}
 use Rattle.script_pieces.specs.Answers.{IsStatement, IsRest, IsFailure}
 use Rattle.script_pieces.specs.declared.errors.PieceError.{PieceError}
 use Rattle.script_pieces.specs.declared.errors.PieceError.TheVariants.{Read as FaultyRead, StatementBytes as LongStatement, ScriptBytes as LongScript}
 use Rattle.script_pieces.proofs.Cutting.{stable}
 use Rattle.script_pieces.proofs.OneCut.{alone}
 use Rattle.script_statements.specs.Statements.{ComprehensionShape}
-use Rattle.script_parse.specs.Answers.{Spells, OfSet, Shows, AreRefused, State, IsNext, IsPiece, IsFirstRefused, IsCause, IsStopped, Says, GivesStatement, EndsRest, error_of}
+use Rattle.script_parse.specs.Answers.{Spells, OfSet, Shows, AreRefused, State, IsNext, IsPiece, IsCause, IsStopped, Says, GivesStatement, EndsRest, error_of}
 use Rattle.script_parse.specs.declared.statement.Statement.{Statement as DeclaredStatement}
 use Rattle.script_parse.specs.declared.errors.ScriptError.{ScriptError}
 use Rattle.script_parse.specs.declared.errors.ScriptError.TheVariants.{Read, Limit, Unbuilt, Syntax, Name, Memory}

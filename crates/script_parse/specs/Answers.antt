@@ -1,6 +1,6 @@
 -- What the reader of statements answers, and what each answer says of the bytes ahead.
 use Rattle.std.specs.Prelude.{ℕ, zero, suc, ◌≡◌, ◌+◌, Bool, true, false, List, [], ◌∷◌, ◌++◌, length, take, drop, Option, ◌⊎◌, None, Some, Result, Ok, Err, IfSome}
-use Rattle.std.specs.Io.KnownBytes.{prepend_known, IsAtEnd}
+use Rattle.std.specs.Io.KnownBytes.{prepend_known}
 use Rattle.lash_model.specs.Formulas.{Sort, Formula}
 use Rattle.formula_core.specs.Shape.{formula_of}
 use Rattle.parser_laws.specs.Places.{IsRead, IsSyntaxAt, IsNestingAt}
@@ -20,7 +20,6 @@ use Rattle.script_meaning.specs.Faults.{shown_fault}
 use Rattle.script_meaning.specs.Resolving.{IsWithin, IsFirstPassed}
 use Rattle.script_meaning.specs.declared.limits.Which.{Which}
 use Rattle.script_meaning.specs.declared.limits.Which.TheVariants.{StatementBytes, ScriptBytes, Nesting}
-use Rattle.script_meaning.specs.declared.names.FaultAt.{FaultAt}
 use Rattle.script_parse.specs.Unbuilt.{has_unbuilt}
 use Rattle.script_parse.specs.declared.statement.Statement.{Statement as DeclaredStatement}
 use Rattle.script_parse.specs.declared.statement.Statement.TheVariants.{Show as DeclaredShow}

@@ -2,12 +2,14 @@
 #![tactic(auto)]
 
 mod errors;
+mod laws;
 mod piece;
 mod reader;
 mod statement;
 mod unbuilt;
 
 pub use errors::ScriptError;
+pub use laws::answers_exclude_each_other;
 pub use reader::Statements;
 pub use statement::Statement;
 

@@ -1,4 +1,3 @@
-use Rattle.std.proofs.Common.{◌≡◌, sym, ap, ◌∙◌, map}
 use Rattle.script_parse.proofs.Placing.{place_there, place_behind}
 use Rattle.script_parse.proofs.piece.place_of.Goals as goal
 

@@ -1,4 +1,4 @@
-use Rattle.std.proofs.Common.{◌≡◌, ◌≤◌, sym, ap, ◌∙◌, map, subst, length, arith}
+use Rattle.std.proofs.Common.{sym, ap, ◌∙◌, map, subst, length, arith}
 use Rattle.std.proofs.lemmas.List.{length-map}
 use Rattle.script_tokens.specs.Shape.{placed_of}
 use Rattle.script_tokens.specs.Naming.{AreNamed}

@@ -1,6 +1,5 @@
-use Rattle.std.proofs.Common.{◌≡◌, sym, ◌∙◌, map}
+use Rattle.std.proofs.Common.{sym, ◌∙◌, map}
 use Rattle.script_tokens.specs.Shape.{placed_of}
-use Rattle.script_parse.specs.Answers.{Spells}
 use Rattle.script_statements.specs.Statements.{comprehension_of}
 use Rattle.script_parse.proofs.Answering.{spelled, not_shown, set_size, set_named, answered}
 use Rattle.script_parse.proofs.piece.read_tokens.Goals as goal

@@ -1,4 +1,4 @@
-use Rattle.std.proofs.Common.{◌≡◌, sym, ap, ◌∙◌, subst}
+use Rattle.std.proofs.Common.{subst}
 use Rattle.script_pieces.specs.Answers.{IsAhead}
 use Rattle.script_parse.specs.Answers.{State, Says}
 use Rattle.script_parse.proofs.Stepping.{says_rest, says_statement}
