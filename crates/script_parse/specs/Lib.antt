@@ -1,2 +1,4 @@
 pub mod Unbuilt
 pub mod Answers
+pub use Rattle.script_meaning.specs.Resolving
+pub use Rattle.script_pieces.specs.Taking

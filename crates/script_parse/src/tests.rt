@@ -1,0 +1,247 @@
+//! Scripts in memory, by the text of the definitions.
+
+ghost use Rattle.std.specs.Prelude.{◌≤◌};
+
+use super::*;
+use digit_codes::Base;
+use formula_core::{Formula, Linear};
+use lash_io::MemSource;
+use script_meaning::{NameFault, Which};
+use std::alloc::{AllocError, Global};
+use std::test::Fail;
+
+type Answer = Result<Option<Statement>, ScriptError>;
+
+/// Bytes that come in pieces of a given size, from a source whose stated calls fail.
+fn source(alloc: Global, bytes: &[u8], piece: usize, fails: &[u64]) -> Result<MemSource, AllocError>
+    requires { 1 ≤ piece }
+{
+    let bytes = Vec::from_slice(alloc, bytes)?;
+    Ok(MemSource::new(bytes, piece, Vec::from_slice(alloc, fails)?))
+}
+
+/// A reader in base 2 that has taken nothing.
+fn reader(alloc: Global) -> Result<Statements, Fail> {
+    let binary = Base::new(2).ok_or("2 is a base")?;
+    match Statements::new(alloc, binary) {
+        Ok(statements) => Ok(statements),
+        Err(_) => Err(Fail::from("no memory")),
+    }
+}
+
+/// The next answer of a reader that is live.
+fn next(
+    alloc: Global,
+    statements: &mut Statements,
+    source: &mut MemSource,
+) -> Result<Answer, Fail> {
+    if !statements.live() {
+        return Err(Fail::from("the reader is not live"));
+    }
+    Ok(statements.next(alloc, source))
+}
+
+/// Whether a term is the variable at place 0 alone, compared to a bound.
+fn is_bound(term: &Linear, bound: i128) -> bool {
+    term.constant() == bound && term.terms() == [(0, 1)].as_slice()
+}
+
+/// Whether a statement shows one variable that is at most a bound.
+fn shows_at_most(statement: &Statement, name: &[u8], bound: i128) -> bool {
+    match statement {
+        Statement::Show { vars, formula } => {
+            if vars.sorts().len() != 1 || vars.name(0) != name {
+                return false;
+            }
+            match formula {
+                Formula::Le(term) => is_bound(term, bound),
+                _ => false,
+            }
+        }
+    }
+}
+
+/// Whether an answer is a statement that shows one variable that is at most a bound.
+fn is_at_most(answer: &Answer, name: &[u8], bound: i128) -> bool {
+    match answer {
+        Ok(Some(statement)) => shows_at_most(statement, name, bound),
+        _ => false,
+    }
+}
+
+/// The cause of the first refusal of a script whose bytes come three at a time; None where its first answer is another.
+fn refusal(alloc: Global, bytes: &[u8], fails: &[u64]) -> Result<Option<ScriptError>, Fail> {
+    let mut source = source(alloc, bytes, 3, fails)?;
+    let mut statements = reader(alloc)?;
+    let cause = next(alloc, &mut statements, &mut source)?.err();
+    if cause.is_some() && statements.live() {
+        return Err(Fail::from("a reader that has refused is live"));
+    }
+    Ok(cause)
+}
+
+/// Whether a script is at its end at once, and the reader is not live then.
+fn is_blank(alloc: Global, bytes: &[u8]) -> Result<bool, Fail> {
+    let mut source = source(alloc, bytes, 3, &[])?;
+    let mut statements = reader(alloc)?;
+    let ends = match next(alloc, &mut statements, &mut source)? {
+        Ok(None) => true,
+        _ => false,
+    };
+    Ok(ends && !statements.live())
+}
+
+/// Whether two statements are shown in their order, and then the script is at its end.
+fn are_shown(alloc: Global, piece: usize) -> Result<bool, Fail>
+    requires { 1 ≤ piece }
+{
+    let script = b"show (x int): x <= 3;# and; then\nshow (y int): y <= -4;\n";
+    let mut source = source(alloc, script, piece, &[])?;
+    let mut statements = reader(alloc)?;
+    let first = next(alloc, &mut statements, &mut source)?;
+    let second = next(alloc, &mut statements, &mut source)?;
+    let last = next(alloc, &mut statements, &mut source)?;
+    Ok(is_at_most(&first, b"x", 3) && is_at_most(&second, b"y", -4) && ends(&last))
+}
+
+fn ends(answer: &Answer) -> bool {
+    match answer {
+        Ok(None) => true,
+        _ => false,
+    }
+}
+
+#[test]
+fn statements_are_given_in_order(rt: HostRuntime) -> Result<(), Fail> {
+    assert!(rt; are_shown(rt.alloc(), 1)?);
+    assert!(rt; are_shown(rt.alloc(), 3)?);
+    assert!(rt; are_shown(rt.alloc(), usize::MAX)?);
+    Ok(())
+}
+
+#[test]
+fn scripts_without_tokens_end(rt: HostRuntime) -> Result<(), Fail> {
+    assert!(rt; is_blank(rt.alloc(), b"")?);
+    assert!(rt; is_blank(rt.alloc(), b" \t\r\n# a; b")?);
+    Ok(())
+}
+
+#[test]
+fn syntax_is_wrong_at_a_place(rt: HostRuntime) -> Result<(), Fail> {
+    assert_eq!(rt;
+        refusal(rt.alloc(), b"show (x int): x <= ;", &[])?,
+        Some(ScriptError::Syntax { place: 19 })
+    );
+    assert_eq!(rt;
+        refusal(rt.alloc(), b";", &[])?,
+        Some(ScriptError::Syntax { place: 0 })
+    );
+    assert_eq!(rt;
+        refusal(rt.alloc(), b"show (x int): x", &[])?,
+        Some(ScriptError::Syntax { place: 15 })
+    );
+    Ok(())
+}
+
+#[test]
+fn names_are_wrong_at_a_place(rt: HostRuntime) -> Result<(), Fail> {
+    assert_eq!(rt;
+        refusal(rt.alloc(), b"show (x int): y <= 1;", &[])?,
+        Some(ScriptError::Name {
+            fault: NameFault::Unknown,
+            place: 14
+        })
+    );
+    assert_eq!(rt;
+        refusal(rt.alloc(), b"show (x int, x int): true;", &[])?,
+        Some(ScriptError::Name {
+            fault: NameFault::Repeated,
+            place: 13
+        })
+    );
+    Ok(())
+}
+
+#[test]
+fn more_is_not_built(rt: HostRuntime) -> Result<(), Fail> {
+    let unbuilt = Some(ScriptError::Unbuilt);
+    assert_eq!(rt; refusal(rt.alloc(), b"check true;", &[])?, unbuilt);
+    assert_eq!(rt;
+        refusal(rt.alloc(), b"show (x real): x <= 1;", &[])?,
+        unbuilt
+    );
+    assert_eq!(rt; refusal(rt.alloc(), b"show (x int): A(x);", &[])?, unbuilt);
+    assert_eq!(rt;
+        refusal(rt.alloc(), b"; check true", &[])?,
+        Some(ScriptError::Syntax { place: 0 })
+    );
+    Ok(())
+}
+
+#[test]
+fn limits_are_named(rt: HostRuntime) -> Result<(), Fail> {
+    assert_eq!(rt;
+        refusal(rt.alloc(), thirteen(), &[])?,
+        Some(ScriptError::Limit {
+            which: Which::Letters
+        })
+    );
+    assert_eq!(rt;
+        refusal(rt.alloc(), b"show (x int): x <= 18446744073709551617;", &[])?,
+        Some(ScriptError::Limit {
+            which: Which::Literal
+        })
+    );
+    Ok(())
+}
+
+/// Thirteen variables: in base 2 these are 8,192 letters.
+fn thirteen() -> &'static [u8] {
+    b"show (a int, b int, c int, d int, e int, f int, g int, h int, i int, j int, k int, l int, m int): true;"
+}
+
+/// A statement with so many words `not`.
+fn negated(alloc: Global, count: usize) -> Result<Vec<u8>, AllocError> {
+    let mut script = Vec::from_slice(alloc, b"show (x int): ")?;
+    for _ in 0..count {
+        script.extend_from_slice(b"not ")?;
+    }
+    script.extend_from_slice(b"x <= 1;")?;
+    Ok(script)
+}
+
+#[test]
+fn nesting_is_limited(rt: HostRuntime) -> Result<(), Fail> {
+    let script = negated(rt.alloc(), 257)?;
+    assert_eq!(rt;
+        refusal(rt.alloc(), script.as_slice(), &[])?,
+        Some(ScriptError::Limit {
+            which: Which::Nesting
+        })
+    );
+    Ok(())
+}
+
+#[test]
+fn a_statement_has_65536_bytes_at_the_most(rt: HostRuntime) -> Result<(), Fail> {
+    let script = vec![in rt.alloc(); b' '; 65_537]?;
+    assert!(rt; is_blank(rt.alloc(), &script[..65_536])?);
+    let mut long = Vec::from_slice(rt.alloc(), script.as_slice())?;
+    long.push(b';')?;
+    assert_eq!(rt;
+        refusal(rt.alloc(), long.as_slice(), &[])?,
+        Some(ScriptError::Limit {
+            which: Which::StatementBytes
+        })
+    );
+    Ok(())
+}
+
+#[test]
+fn faults_of_reads_are_told(rt: HostRuntime) -> Result<(), Fail> {
+    assert_eq!(rt;
+        refusal(rt.alloc(), b"show (x int): x <= 3;", &[2])?,
+        Some(ScriptError::Read)
+    );
+    Ok(())
+}
