@@ -6,3 +6,4 @@ pub mod DeclaredNames
 pub mod Answering
 pub mod Stepping
 pub mod Excluding
+pub mod InOrder
