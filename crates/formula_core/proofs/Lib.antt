@@ -1,3 +1,6 @@
 pub mod Adding
 pub mod Listing
 pub mod Marking
+pub mod Gathering
+pub mod Walking
+pub mod Depending

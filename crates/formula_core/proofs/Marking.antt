@@ -55,7 +55,7 @@ pub marked_not : (ms : List Bool) (n : ℕ) (was now : List ℕ) → was ≡ fil
 marked_not ms n was now h e p = p ∙ sym (append-nil was) ∙ marked_with ms n false was e h
 
 -- tests that agree below a number keep the same numbers
-filter_agreed : (p q : ℕ → Bool) (a n : ℕ) → ((k : ℕ) → a ≤ k → k < a + n → p k ≡ q k) → filter p (range_with_len a n) ≡ filter q (range_with_len a n)
+pub filter_agreed : (p q : ℕ → Bool) (a n : ℕ) → ((k : ℕ) → a ≤ k → k < a + n → p k ≡ q k) → filter p (range_with_len a n) ≡ filter q (range_with_len a n)
 filter_agreed p q a zero h = refl
 filter_agreed p q a (suc n) h = ap (λ b. cond b (a ∷ filter p (range_with_len (a + 1) n)) (filter p (range_with_len (a + 1) n))) (h a (omega arith) (omega arith)) ∙ ap (λ xs. cond (q a) (a ∷ xs) xs) (filter_agreed p q (a + 1) n (λ k low high. h k (omega arith) (omega arith)))
 

@@ -3,6 +3,9 @@ pub mod Names
 pub mod Variables
 pub mod Shape
 pub mod Counts
+pub mod Atoms
+pub mod FewLetters
 pub mod Marks
+pub mod PlaceSets
 pub use Rattle.lash_model.specs.Formulas
 pub use Rattle.lash_model.specs.Meaning

@@ -1,7 +1,9 @@
 //! The free variables of a formula (own): a mark for each place, and one walk over the formula.
 
-ghost use Rattle.std.specs.Prelude.{◌≡◌, ℕ, ◌<◌, ◌||◌, Bool, false, IfOk, length, List, slice_index_or, ◌^◌};
+ghost use Rattle.std.specs.Prelude.{◌≡◌, ℕ, ◌<◌, ◌||◌, Bool, false, IfOk, OnOk, length, List, slice_index_or, ◌^◌};
 ghost use Rattle.std.specs.List.{filter, range_with_len};
+ghost use Rattle.lash_model.specs.Formulas.{IsLinear};
+ghost use Rattle.formula_core.specs.Atoms.{HasLinearAtoms};
 ghost use Rattle.formula_core.specs.Counts.{uses, term_uses, free_places};
 ghost use Rattle.formula_core.specs.Marks.{AreMarked};
 ghost use Rattle.formula_core.specs.Shape.{formula_of};
@@ -11,9 +13,10 @@ use crate::linear::Linear;
 use lash_io::Memory;
 use std::alloc::Global;
 
-/// The places below `places` that have a nonzero coefficient in some atom, rising.
+/// The places below `places` that have a nonzero coefficient in some atom, rising. The atoms are linear, as of any formula.
 pub fn free_vars(alloc: Global, formula: &Formula, places: u32) -> Result<Vec<u32>, Memory>
-    ensures { IfOk result (λ free. free.items ≡ free_places (formula_of formula.now) places) }
+    ensures places { IfOk result (λ free. free.items ≡ free_places (formula_of formula.now) places) }
+    ensures linear { OnOk result (HasLinearAtoms (formula_of formula.now)) }
 {
     let mut marks = match Vec::from_elem(alloc, false, places as usize) {
         Ok(marks) => marks,
@@ -25,7 +28,8 @@ pub fn free_vars(alloc: Global, formula: &Formula, places: u32) -> Result<Vec<u3
 
 // Marks the places that the formula uses.
 fn mark(formula: &Formula, marks: &mut [bool])
-    ensures { AreMarked (λ place. uses place (formula_of formula.now)) marks.old marks.new }
+    ensures marks { AreMarked (λ place. uses place (formula_of formula.now)) marks.old marks.new }
+    ensures linear { HasLinearAtoms (formula_of formula.now) }
 {
     match formula {
         Formula::Le(term) | Formula::Eq(term) => mark_term(term, marks),
@@ -39,7 +43,8 @@ fn mark(formula: &Formula, marks: &mut [bool])
 
 // Marks the places that the term uses.
 fn mark_term(term: &Linear, marks: &mut [bool])
-    ensures { AreMarked (λ place. term_uses place term.now) marks.old marks.new }
+    ensures marks { AreMarked (λ place. term_uses place term.now) marks.old marks.new }
+    ensures linear { IsLinear term.now }
 {
     for (place, _) in term.terms() {
         let at = *place as usize;
