@@ -1,0 +1,9 @@
+pub mod Places
+pub mod Spreading
+pub mod OwnTerms
+pub mod Making
+pub mod Declaring
+pub mod Minimizing
+pub mod NodeSteps
+pub mod Widening
+pub mod SmallTerms

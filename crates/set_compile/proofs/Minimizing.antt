@@ -1,0 +1,22 @@
+-- The canonical table of a complement or a product accepts what that accepts.
+use Rattle.std.proofs.Common.{◌≡◌, ◌^◌, ◌<◌, sym, ap, ◌∙◌, subst}
+use Rattle.std.specs.Prelude.{All}
+use Rattle.std.proofs.lemmas.List.Elements.{recursion_from_All}
+use Rattle.lash_model.specs.Tables.{Table, letters}
+use Rattle.canonical_laws.specs.Canonical.{AcceptSameWords}
+use Rattle.product_ops.specs.Negation.{AcceptsOthers}
+use Rattle.product_ops.specs.Pairs.{AcceptsBoth}
+use Rattle.product_ops.specs.Tracks.{TrackLists}
+use Rattle.product_ops.specs.declared.operation.Op.{Op}
+
+pub others_kept : (t v u : Table) → v.base ≡ t.base → v.tracks ≡ t.tracks → AcceptsOthers t v → AcceptSameWords v u → AcceptsOthers t u
+others_kept t v u base tracks others same sign w lt ls =
+    let sign_in = subst (λ n. sign < 2 ^ n) (sym tracks) lt in
+    let word_in = subst (λ k. All (λ l. l < k) w) (sym (ap (λ b. b ^ v.tracks) base ∙ ap (λ n. t.base ^ n) tracks)) ls in
+    sym (same sign w sign_in (recursion_from_All (λ l. l < letters v) w word_in)) ∙ others sign w lt ls
+
+pub both_kept : (op : Op) (a b : Table) (m : TrackLists) (t u : Table) → t.base ≡ a.base → t.tracks ≡ m.tracks → AcceptsBoth op a b m t → AcceptSameWords t u → AcceptsBoth op a b m u
+both_kept op a b m t u base tracks both same sign w lt ls =
+    let sign_in = subst (λ n. sign < 2 ^ n) (sym tracks) lt in
+    let word_in = subst (λ k. All (λ l. l < k) w) (sym (ap (λ r. r ^ t.tracks) base ∙ ap (λ n. a.base ^ n) tracks)) ls in
+    sym (same sign w sign_in (recursion_from_All (λ l. l < letters t) w word_in)) ∙ both sign w lt ls

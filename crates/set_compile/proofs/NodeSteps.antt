@@ -1,0 +1,93 @@
+-- A node's table from those of its parts, and its first heavy step from theirs.
+use Rattle.std.proofs.Common.{ℕ, ◌+◌, ◌^◌, ◌≤◌, length, sym, ◌∙◌, subst, IsTrue}
+use Rattle.std.proofs.lemmas.Bool.{or_left, or_right}
+use Rattle.std.specs.Prelude.{IfOk, IfErr}
+use Rattle.std.specs.declared.result.Result.{Result}
+use Rattle.std.specs.declared.result.Result.TheVariants.{Ok, Err}
+use mathlib.Core.Logic.{inl, inr}
+use Rattle.graph_laws.specs.Exploring.{IsHeavy}
+use Rattle.lash_model.specs.Formulas.{Linear, IsLinear, Formula, Le, Eq, Not, And, Or, Exists}
+use Rattle.lash_model.specs.Tables.{Table}
+use Rattle.lash_model.specs.Thresholds.{AtMost, Equal, IsHeavyAtom}
+use Rattle.formula_core.specs.Counts.{uses, free_places}
+use Rattle.formula_core.specs.FewLetters.{HasFewLetters}
+use Rattle.product_ops.specs.Negation.{AcceptsOthers}
+use Rattle.product_ops.specs.Pairs.{pairs}
+use Rattle.product_ops.specs.declared.operation.Op.TheVariants.{And as Both, Or as Either}
+use Rattle.set_compile.specs.Conditions.{IsTermOver, IsNarrow}
+use Rattle.set_compile.specs.Positions.{shared}
+use Rattle.set_compile.specs.Steps.{own, IsShaped, IsOfAtom, IsOfPairs, IsMade, IsFirstHeavy}
+use Rattle.set_compile.proofs.OwnTerms.{free_count}
+use Rattle.set_compile.proofs.Making.{shape_of}
+
+-- ---- results
+pub both_ok : {T E : Type 0} (r : Result T E) (P Q R : T → Type 0) → ((x : T) → P x → Q x → R x) → IfOk r P → IfOk r Q → IfOk r R
+both_ok (Ok x) P Q R h p q = h x p q
+both_ok (Err e) P Q R h p q = q
+
+pub err_weaker : {T E : Type 0} (r : Result T E) (P Q : E → Type 0) → ((e : E) → P e → Q e) → IfErr r P → IfErr r Q
+err_weaker (Ok x) P Q h p = p
+err_weaker (Err e) P Q h p = h e p
+
+-- ---- letters
+pub is_narrow : (base m : ℕ) (f : Formula) → HasFewLetters base f m → IsNarrow base m f
+unfolding HasFewLetters
+is_narrow base m (Le a) few = few
+is_narrow base m (Eq a) few = few
+is_narrow base m (Not f) few = is_narrow base m f few.1
+is_narrow base m (And f g) few = (few.0, (is_narrow base m f few.1, is_narrow base m g few.2))
+is_narrow base m (Or f g) few = (few.0, (is_narrow base m f few.1, is_narrow base m g few.2))
+is_narrow base m (Exists s f) few = is_narrow base (m + 1) f few.1
+
+-- ---- atoms
+pub le_letters : (base m : ℕ) (a : Linear) → IsNarrow base m (Le a) → IsTermOver m a → IsLinear a → base ^ length a.terms ≤ 4096
+le_letters base m a few over h = subst (λ n. base ^ n ≤ 4096) (free_count a m h over.places) few
+
+pub le_made : (base m limit : ℕ) (a : Linear) (t : Table) → IsLinear a → IsTermOver m a → IsShaped base (length a.terms) t → IsOfAtom AtMost (own a) base (length a.terms) limit t → IsMade base m limit (Le a) t
+le_made base m limit a t h over shape made = subst (λ n. IsShaped base n t × IsOfAtom AtMost (own a) base n limit t) (sym (free_count a m h over.places)) (shape, made)
+
+pub eq_made : (base m limit : ℕ) (a : Linear) (t : Table) → IsLinear a → IsTermOver m a → IsShaped base (length a.terms) t → IsOfAtom Equal (own a) base (length a.terms) limit t → IsMade base m limit (Eq a) t
+eq_made base m limit a t h over shape made = subst (λ n. IsShaped base n t × IsOfAtom Equal (own a) base n limit t) (sym (free_count a m h over.places)) (shape, made)
+
+pub le_heavy : (base m limit : ℕ) (a : Linear) → IsLinear a → IsTermOver m a → IsHeavyAtom AtMost (own a) base (length a.terms) limit → IsFirstHeavy base m limit (Le a)
+le_heavy base m limit a h over heavy = subst (λ n. IsHeavyAtom AtMost (own a) base n limit) (sym (free_count a m h over.places)) heavy
+
+pub eq_heavy : (base m limit : ℕ) (a : Linear) → IsLinear a → IsTermOver m a → IsHeavyAtom Equal (own a) base (length a.terms) limit → IsFirstHeavy base m limit (Eq a)
+eq_heavy base m limit a h over heavy = subst (λ n. IsHeavyAtom Equal (own a) base n limit) (sym (free_count a m h over.places)) heavy
+
+-- ---- negations
+pub not_made : (base m limit : ℕ) (f : Formula) (u t : Table) → IsMade base m limit f u → IsShaped u.base u.tracks t → AcceptsOthers u t → IsMade base m limit (Not f) t
+not_made base m limit f u t made shape others =
+    let s = shape_of base m limit f u made in
+    (record { canonical = shape.canonical; base_is = shape.base_is ∙ s.base_is; tracks_are = shape.tracks_are ∙ s.tracks_are }, (u, (made, others)))
+
+-- ---- conjunctions and disjunctions
+pub left_used : (f g : Formula) (p : ℕ) → IsTrue (uses p f) → IsTrue (uses p (And f g))
+left_used f g p used = or_left (uses p f) (uses p g) used
+
+pub right_used : (f g : Formula) (p : ℕ) → IsTrue (uses p g) → IsTrue (uses p (And f g))
+right_used f g p used = or_right (uses p f) (uses p g) used
+
+pub and_made : (base m limit : ℕ) (f g : Formula) (u v t : Table) → IsMade base m limit f u → IsMade base m limit g v → IsShaped u.base (length (free_places (And f g) m)) t → IsOfPairs Both u v (shared (And f g) f g m) limit t → IsMade base m limit (And f g) t
+and_made base m limit f g u v t left right shape joins = (record { canonical = shape.canonical; base_is = shape.base_is ∙ (shape_of base m limit f u left).base_is; tracks_are = shape.tracks_are }, (u, (v, ((left, right), joins))))
+
+pub or_made : (base m limit : ℕ) (f g : Formula) (u v t : Table) → IsMade base m limit f u → IsMade base m limit g v → IsShaped u.base (length (free_places (Or f g) m)) t → IsOfPairs Either u v (shared (Or f g) f g m) limit t → IsMade base m limit (Or f g) t
+or_made base m limit f g u v t left right shape joins = (record { canonical = shape.canonical; base_is = shape.base_is ∙ (shape_of base m limit f u left).base_is; tracks_are = shape.tracks_are }, (u, (v, ((left, right), joins))))
+
+pub and_left_heavy : (base m limit : ℕ) (f g : Formula) → IsFirstHeavy base m limit f → IsFirstHeavy base m limit (And f g)
+and_left_heavy base m limit f g h = inl h
+
+pub or_left_heavy : (base m limit : ℕ) (f g : Formula) → IsFirstHeavy base m limit f → IsFirstHeavy base m limit (Or f g)
+or_left_heavy base m limit f g h = inl h
+
+pub and_right_heavy : (base m limit : ℕ) (f g : Formula) (u : Table) → IsMade base m limit f u → IsFirstHeavy base m limit g → IsFirstHeavy base m limit (And f g)
+and_right_heavy base m limit f g u left h = inr (inl ((u, left), h))
+
+pub or_right_heavy : (base m limit : ℕ) (f g : Formula) (u : Table) → IsMade base m limit f u → IsFirstHeavy base m limit g → IsFirstHeavy base m limit (Or f g)
+or_right_heavy base m limit f g u left h = inr (inl ((u, left), h))
+
+pub and_pairs_heavy : (base m limit : ℕ) (f g : Formula) (u v : Table) → IsMade base m limit f u → IsMade base m limit g v → IsHeavy (pairs u v (shared (And f g) f g m)) limit → IsFirstHeavy base m limit (And f g)
+and_pairs_heavy base m limit f g u v left right h = inr (inr (u, (v, ((left, right), h))))
+
+pub or_pairs_heavy : (base m limit : ℕ) (f g : Formula) (u v : Table) → IsMade base m limit f u → IsMade base m limit g v → IsHeavy (pairs u v (shared (Or f g) f g m)) limit → IsFirstHeavy base m limit (Or f g)
+or_pairs_heavy base m limit f g u v left right h = inr (inr (u, (v, ((left, right), h))))

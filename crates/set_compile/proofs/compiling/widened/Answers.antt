@@ -1,0 +1,35 @@
+use Rattle.std.proofs.Common.{◌≤◌, ◌^◌, length, sym, ap, ◌∙◌, subst}
+use Rattle.lash_model.specs.Standing.{StandsForWhole}
+use Rattle.formula_core.specs.Counts.{free_places}
+use Rattle.formula_core.specs.Shape.{formula_of}
+use Rattle.product_ops.specs.Operations.{joined, set_of}
+use Rattle.product_ops.specs.Tracks.{TrackLists}
+use Rattle.product_ops.specs.declared.operation.Op.TheVariants.{And as Both}
+use Rattle.set_compile.specs.Positions.{spread}
+use Rattle.set_compile.specs.Steps.{always, all_tracks}
+use Rattle.set_compile.proofs.Making.{shape_of}
+use Rattle.set_compile.proofs.Spreading.{wide_stands}
+use Rattle.set_compile.proofs.Widening.{no_always_tracks, one_base, is_widened}
+use Rattle.set_compile.proofs.compiling.widened.Goals as goal
+
+pub join-requires-clause-base : goal.join-requires-clause-base
+join-requires-clause-base c = one_base c.args.base c.args.places c.args.limit (formula_of c.args.formula.now) always c.args.made.now.table c.in-Ok.whole.table c.requires.made c.in-Ok.ensures.made
+
+pub join-requires-clause-left_tracks : goal.join-requires-clause-left_tracks
+join-requires-clause-left_tracks c = ap (λ (k : TrackLists). length k.left) c.in-Ok-wide_map.ensures.tracks ∙ sym (shape_of c.args.base c.args.places c.args.limit (formula_of c.args.formula.now) c.args.made.now.table c.requires.made).tracks_are
+
+pub join-requires-clause-right_tracks : goal.join-requires-clause-right_tracks
+join-requires-clause-right_tracks c = ap (λ (k : TrackLists). length k.right) c.in-Ok-wide_map.ensures.tracks ∙ no_always_tracks c.args.base c.args.places c.args.limit c.in-Ok.whole.table c.in-Ok.ensures.made
+
+pub join-requires-clause-letters : goal.join-requires-clause-letters
+join-requires-clause-letters c = subst (λ (k : TrackLists). c.args.made.now.table.base ^ k.tracks ≤ 4096) (sym c.in-Ok-wide_map.ensures.tracks) (subst (λ b. b ^ c.args.places ≤ 4096) (sym (shape_of c.args.base c.args.places c.args.limit (formula_of c.args.formula.now) c.args.made.now.table c.requires.made).base_is) c.requires.letters)
+
+pub returns-in-Ok-join-clause-widened : goal.returns-in-Ok-join-clause-widened
+returns-in-Ok-join-clause-widened c = is_widened c.args.base c.args.places c.args.limit (formula_of c.args.formula.now) c.args.made.now.table c.in-Ok.whole.table c.in-Ok-join.wide.table c.in-Ok-wide_map.map c.in-Ok-wide_map.ensures.tracks c.requires.made c.in-Ok.ensures.made c.in-Ok-join.ensures.shape c.in-Ok-join.ensures.made
+
+pub returns-in-Ok-join-clause-stands : goal.returns-in-Ok-join-clause-stands
+returns-in-Ok-join-clause-stands c =
+    let m = c.args.places in
+    let f = formula_of c.args.formula.now in
+    let both : StandsForWhole c.in-Ok-join.wide.table (joined Both (set_of f (spread m (free_places f m))) (set_of always (spread m (free_places always m))) (all_tracks f m)) = subst (λ (k : TrackLists). StandsForWhole c.in-Ok-join.wide.table (joined Both (set_of f (spread m (free_places f m))) (set_of always (spread m (free_places always m))) k)) c.in-Ok-wide_map.ensures.tracks (c.in-Ok-join.ensures.stands f always (spread m (free_places f m)) (spread m (free_places always m)) c.requires.stands c.in-Ok.ensures.stands) in
+    wide_stands c.depends_on_free_places.ensures.used c.in-Ok-join.wide.table f m c.in-Ok-wide_map.ensures.linear (c.in-Ok-join.ensures.shape.tracks_are ∙ ap (λ (k : TrackLists). k.tracks) c.in-Ok-wide_map.ensures.tracks) both

@@ -1,0 +1,37 @@
+-- The formulas that are compiled: over so many variables, with atoms inside the limits, and without quantifiers.
+use Rattle.std.specs.Prelude.{ℕ, ◌+◌, ◌<◌, All, length}
+use Rattle.lash_model.specs.Formulas.{Linear, IsInside, Formula, Le, Eq, Not, And, Or, Exists}
+use Rattle.formula_core.specs.Counts.{free_places}
+use Rattle.formula_core.specs.FewLetters.{AreFew}
+
+-- a term over m variables, inside the limits of coefficients and constants
+pub record IsTermOver (m : ℕ) (a : Linear) : Type 0 where
+  pub places : All (λ t. t.0 < m) a.terms
+  pub inside : IsInside a
+
+-- each term is over m variables, and of a body over one more
+abbrev pub IsOver : ℕ → Formula → Type 0
+IsOver m (Le a) = IsTermOver m a
+IsOver m (Eq a) = IsTermOver m a
+IsOver m (Not f) = IsOver m f
+IsOver m (And f g) = IsOver m f × IsOver m g
+IsOver m (Or f g) = IsOver m f × IsOver m g
+IsOver m (Exists s f) = IsOver (m + 1) f
+
+-- no variable is bound
+abbrev pub HasNoQuantifier : Formula → Type 0
+HasNoQuantifier (Le a) = Unit {0}
+HasNoQuantifier (Eq a) = Unit {0}
+HasNoQuantifier (Not f) = HasNoQuantifier f
+HasNoQuantifier (And f g) = HasNoQuantifier f × HasNoQuantifier g
+HasNoQuantifier (Or f g) = HasNoQuantifier f × HasNoQuantifier g
+HasNoQuantifier (Exists s f) = ⊥
+
+-- at each node the letters over the free variables are few: what `HasFewLetters` says, and it unfolds by itself
+abbrev pub IsNarrow : ℕ → ℕ → Formula → Type 0
+IsNarrow base m (Le a) = AreFew base (length (free_places (Le a) m))
+IsNarrow base m (Eq a) = AreFew base (length (free_places (Eq a) m))
+IsNarrow base m (Not f) = IsNarrow base m f
+IsNarrow base m (And f g) = AreFew base (length (free_places (And f g) m)) × (IsNarrow base m f × IsNarrow base m g)
+IsNarrow base m (Or f g) = AreFew base (length (free_places (Or f g) m)) × (IsNarrow base m f × IsNarrow base m g)
+IsNarrow base m (Exists s f) = IsNarrow base (m + 1) f
