@@ -7,3 +7,4 @@ pub mod Answering
 pub mod Stepping
 pub mod Excluding
 pub mod InOrder
+pub mod PlainSets

@@ -1,4 +1,5 @@
 pub mod Unbuilt
+pub mod Plain
 pub mod Answers
 pub use Rattle.script_meaning.specs.Resolving
 pub use Rattle.script_pieces.specs.Taking

@@ -4,7 +4,9 @@ ghost use Rattle.std.specs.Prelude.{◌≡◌, ◌⊎◌, ℕ, List, ◌∷◌, 
 ghost use Rattle.script_pieces.specs.Cuts.{cut};
 ghost use Rattle.script_pieces.specs.Taking.{Progress};
 ghost use Rattle.script_tokens.specs.Tokens.{PlacedToken};
-ghost use Rattle.script_parse.specs.Answers.{OfSet, Shows, AreRefused, IsNext};
+ghost use Rattle.script_parse.specs.Answers.{OfSet, Shows, Spells, AreRefused, IsNext};
+ghost use Rattle.script_parse.specs.Plain.{IsPlainSet};
+ghost use Rattle.script_statements.specs.Statements.{ComprehensionShape};
 ghost use Rattle.script_parse.specs.declared.errors.ScriptError.TheVariants.{Memory};
 
 use crate::errors::ScriptError;
@@ -20,4 +22,9 @@ pub fn answers_exclude_each_other()
 /// calls gives the statements of the script in order, in whatever pieces the source gives its bytes.
 pub fn statements_come_in_order()
     ensures { (base : ℕ) (before after : Progress) (left_before left_after : List ℕ) (s : Statement) (h : IsNext base before after (Some left_before) (Some left_after) s) → cut (before.held ++ left_before) ≡ record { statements = h.text ∷ (cut (after.held ++ left_after)).statements; rest = (cut (after.held ++ left_after)).rest } }
+{}
+
+/// A set that is given is one of integers, without quantifiers and calls: whatever has others is answered as not built.
+pub fn built_sets_are_plain()
+    ensures { (ts : List PlacedToken) (set : ComprehensionShape) → Spells ts set → IsPlainSet set }
 {}
