@@ -1,4 +1,4 @@
-/// Limits.
+/// The limits of scripts, in the order in which they are judged (own). `resolve` answers `Literal`, and `Nodes` to `Letters`.
 #[derive(Clone, Copy, PartialEq, Eq, Debug)]
 pub enum Which {
     StatementBytes,

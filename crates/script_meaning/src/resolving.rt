@@ -43,6 +43,10 @@ pub enum Refusal {
 
 /// The variables and the core formula of a set of a script. Conditions: the declared names are variables' names, and there are at most
 /// 65,536 declarations and parts of terms together.
+///
+/// # Errors
+/// `Fault` at the first wrong name from left to right. `Limit`, where all names are right, with the first limit in the order of `Which` that
+/// the formula passes anywhere. `Memory` where memory is wanting.
 pub fn resolve<'a>(
     alloc: Global,
     base: Base,
