@@ -1,3 +1,3 @@
-mod Steps
+pub mod Steps
 mod Listed
 mod Headed

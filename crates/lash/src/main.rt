@@ -3,27 +3,27 @@
 
 ghost use Rattle.std.specs.Prelude.{◌≡◌, ◌⊎◌, IfErr};
 
-use lash_command::{Status, report, run};
+use lash_command::{Ending, report, run};
 use lash_io::{StdSink, StdSource};
 use std::process::ExitCode;
 use std::{env, io};
 
 /// The words after the program's name, or how the program ends without them: a word is no text, or there was no memory.
-fn words(rt: &HostRuntime) -> Result<Vec<String>, Status>
-    ensures { IfErr result (λ status. (status ≡ Status.Usage) ⊎ (status ≡ Status.NoMemory)) }
+fn words(rt: &HostRuntime) -> Result<Vec<String>, Ending>
+    ensures { IfErr result (λ ending. (ending ≡ Ending.Usage) ⊎ (ending ≡ Ending.NoMemory)) }
 {
     let all = match env::args(rt) {
         Ok(all) => all,
         Err(error) => {
             return Err(match error.kind() {
-                io::ErrorKind::OutOfMemory => Status::NoMemory,
-                _ => Status::Usage,
+                io::ErrorKind::OutOfMemory => Ending::NoMemory,
+                _ => Ending::Usage,
             });
         }
     };
     match all.skip(1).collect(rt.alloc()) {
         Ok(words) => Ok(words),
-        Err(_) => Err(Status::NoMemory),
+        Err(_) => Err(Ending::NoMemory),
     }
 }
 
@@ -31,9 +31,9 @@ fn main(rt: HostRuntime) -> ExitCode {
     let mut errors = StdSink::new(rt.stderr());
     let words = match words(&rt) {
         Ok(words) => words,
-        Err(status) => {
-            report(status, &mut errors);
-            return ExitCode::from(status.code());
+        Err(ending) => {
+            report(ending, &mut errors);
+            return ExitCode::from(ending.status().code());
         }
     };
     let mut input = StdSource::new(rt.reader());

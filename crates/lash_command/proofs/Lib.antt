@@ -1,5 +1,6 @@
-pub mod Forms
-pub mod Filling
-pub mod Term
-pub mod Explaining
-pub mod Agreeing
+mod GivenSets
+mod Built
+mod Coming
+mod Turning
+mod VectorWords
+mod Agreeing

@@ -1,15 +1,18 @@
-//! The command: the words, the script and its answers.
+//! The command: a script is taken, each of its statements is answered, and a refusal is told.
 #![tactic(auto)]
 
-mod form;
+mod ending;
 mod laws;
+mod lines;
 mod program;
-mod show;
+mod session;
+mod showing;
 mod status;
-mod taking;
 
+pub use ending::{Ending, Refusal};
 pub use laws::texts_are_equal_where_sets_agree;
-pub use program::{report, run};
+pub use lines::report;
+pub use program::run;
 pub use status::Status;
 
 #[cfg(test)]

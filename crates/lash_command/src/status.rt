@@ -1,7 +1,7 @@
-//! How a run ends.
+//! The codes of a run.
 
 ghost use Rattle.std.specs.Prelude.{◌≡◌};
-ghost use Rattle.lash_command.specs.Answers.{code_of, line_of};
+ghost use Rattle.lash_command.specs.Lines.{code_of};
 
 /// How a run ends: it answered, or why it did not.
 #[derive(Clone, Copy, Debug, PartialEq, Eq)]
@@ -35,23 +35,5 @@ impl Status {
             Status::NoMemory => 8,
             Status::Unbuilt => 9,
         }
-    }
-}
-
-/// The line that is written of a status.
-pub fn line(status: Status) -> &'static [u8]
-    ensures { result.now ≡ line_of status }
-{
-    match status {
-        Status::Fine => b"",
-        Status::Usage => b"lash: usage: lash [-b BASE] [-m CELLS] [--gen N]\n",
-        Status::Script => b"lash: statement 1: syntax at byte 0\n",
-        Status::TooLarge => b"lash: statement 1: heavy\n",
-        Status::NoPower => b"lash: statement 1: no power\n",
-        Status::NotWeak => b"lash: statement 1: not weak\n",
-        Status::ReadFault => b"lash: read fault\n",
-        Status::WriteFault => b"lash: write fault\n",
-        Status::NoMemory => b"lash: no memory\n",
-        Status::Unbuilt => b"lash: unbuilt\n",
     }
 }

@@ -1,11 +1,12 @@
-//! Runs over bytes in memory: the shown set, and each refusal that can be brought about from outside.
+//! Runs over bytes in memory: what is shown, and each refusal that can be brought about from outside. The expected texts are worked out by
+//! the definitions.
 
 use super::*;
 use lash_io::{MemSink, MemSource};
 use std::alloc::{AllocError, Global};
 use std::test::Fail;
 
-const TABLE: &[u8] =
+const UP_TO_THREE: &[u8] =
     b"lash 1\nbase 2\nvars x int\nint 5\nroots 0 1\n0 + 0 2\n1 + 1 1\n2 + 3 3\n3 + 4 4\n4 - 4 4\nend\n";
 
 /// Bytes that come in pieces of five, from a source whose stated calls fail.
@@ -14,65 +15,174 @@ fn source(alloc: Global, script: &[u8], fails: &[u64]) -> Result<MemSource, Allo
     Ok(MemSource::new(bytes, 5, Vec::from_slice(alloc, fails)?))
 }
 
+/// A sink that holds at most so many bytes.
+fn sink(alloc: Global, room: usize) -> Result<MemSink, Fail> {
+    match MemSink::new(alloc, room, Vec::new(alloc)) {
+        Ok(sink) => Ok(sink),
+        Err(_) => Err(Fail::from("no memory")),
+    }
+}
+
+/// Whether a script without words ends with the code, the bytes on the first sink and the line on the second.
+fn ends(alloc: Global, script: &[u8], code: u8, written: &[u8], line: &[u8]) -> Result<bool, Fail> {
+    let mut input = source(alloc, script, &[])?;
+    let mut out = sink(alloc, 400)?;
+    let mut err = sink(alloc, 200)?;
+    let status = run(alloc, &[], &mut input, &mut out, &mut err);
+    Ok(status.code() == code && out.bytes() == written && err.bytes() == line)
+}
+
 #[test]
 fn shows_the_integers_up_to_three(rt: HostRuntime) -> Result<(), Fail> {
-    let mut input = source(rt.alloc(), b"show (x int): x <= 3;\n", &[])?;
-    let mut out = MemSink::new(rt.alloc(), 200, Vec::new(rt.alloc()))
-        .ok()
-        .ok_or("memory")?;
-    let mut err = MemSink::new(rt.alloc(), 200, Vec::new(rt.alloc()))
-        .ok()
-        .ok_or("memory")?;
-    let status = run(rt.alloc(), &[], &mut input, &mut out, &mut err);
-    assert_eq!(rt; status.code(), 0);
-    assert_eq!(rt; out.bytes(), TABLE);
-    assert_eq!(rt; err.bytes(), b"".as_slice());
+    let script = b"show (x int): x <= 3;\n# no more; this is all\n";
+    assert!(rt; ends(rt.alloc(), script, 0, UP_TO_THREE, b"")?);
     Ok(())
 }
 
 #[test]
-fn refuses_another_form(rt: HostRuntime) -> Result<(), Fail> {
-    let mut input = source(rt.alloc(), b"show (x int): x < 3;", &[])?;
-    let mut out = MemSink::new(rt.alloc(), 200, Vec::new(rt.alloc()))
-        .ok()
-        .ok_or("memory")?;
-    let mut err = MemSink::new(rt.alloc(), 200, Vec::new(rt.alloc()))
-        .ok()
-        .ok_or("memory")?;
-    let status = run(rt.alloc(), &[], &mut input, &mut out, &mut err);
-    assert_eq!(rt; status.code(), 9);
-    assert_eq!(rt; out.bytes(), b"".as_slice());
-    assert_eq!(rt; err.bytes(), b"lash: unbuilt\n".as_slice());
+fn shows_truth_functions(rt: HostRuntime) -> Result<(), Fail> {
+    let both =
+        b"lash 1\nbase 2\nvars x int\nint 4\nroots 0 1\n0 + 0 2\n1 - 1 1\n2 + 3 3\n3 + 1 1\nend\n";
+    assert!(rt;
+        ends(
+            rt.alloc(),
+            b"show (x int): x <= 3 and x >= 0;",
+            0,
+            both,
+            b""
+        )?
+    );
+    let none = b"lash 1\nbase 2\nvars x int\nint 1\nroots 0 0\n0 - 0 0\nend\n";
+    assert!(rt;
+        ends(
+            rt.alloc(),
+            b"show (x int): 2*x = 1 or not x = x;",
+            0,
+            none,
+            b""
+        )?
+    );
+    Ok(())
+}
+
+#[test]
+fn refuses_wrong_statements(rt: HostRuntime) -> Result<(), Fail> {
+    let syntax = b"lash: statement 1: syntax at byte 19\n";
+    assert!(rt; ends(rt.alloc(), b"show (x int): x <= ;", 2, b"", syntax)?);
+    let unknown = b"lash: statement 1: unknown name at byte 14\n";
+    assert!(rt; ends(rt.alloc(), b"show (x int): y <= 1;", 2, b"", unknown)?);
+    let repeated = b"lash: statement 1: repeated name at byte 13\n";
+    assert!(rt;
+        ends(
+            rt.alloc(),
+            b"show (x int, x int): x <= 1;",
+            2,
+            b"",
+            repeated
+        )?
+    );
+    assert!(rt; ends(rt.alloc(), b"check true;", 9, b"", b"lash: unbuilt\n")?);
+    Ok(())
+}
+
+#[test]
+fn refuses_what_is_too_large(rt: HostRuntime) -> Result<(), Fail> {
+    let script =
+        b"show (a int, b int, c int, d int, e int, f int, g int, h int, i int, j int, k int, l int, m int): true;";
+    assert!(rt;
+        ends(
+            rt.alloc(),
+            script,
+            3,
+            b"",
+            b"lash: statement 1: limit letters\n"
+        )?
+    );
+    let literal = b"show (x int): x <= 18446744073709551617;";
+    assert!(rt;
+        ends(
+            rt.alloc(),
+            literal,
+            3,
+            b"",
+            b"lash: statement 1: limit literal\n"
+        )?
+    );
+    Ok(())
+}
+
+/// What is shown before a refusal stands, and the refused statement is counted.
+#[test]
+fn tells_the_refused_statement(rt: HostRuntime) -> Result<(), Fail> {
+    let script = b"show (x int): x <= 3;\nshow (x int): x <;";
+    assert!(rt;
+        ends(
+            rt.alloc(),
+            script,
+            2,
+            UP_TO_THREE,
+            b"lash: statement 2: syntax at byte 39\n"
+        )?
+    );
+    let rest = b"show (x int): x <= 3; x";
+    assert!(rt;
+        ends(
+            rt.alloc(),
+            rest,
+            2,
+            UP_TO_THREE,
+            b"lash: statement 2: syntax at byte 22\n"
+        )?
+    );
+    Ok(())
+}
+
+/// One inequation of coefficients within their limit has more than 4,194,304 cells.
+#[test]
+fn refuses_a_heavy_set(rt: HostRuntime) -> Result<(), Fail> {
+    let script = b"show (x int, y int): 8388608*x - 8388608*y <= 1;";
+    assert!(rt; ends(rt.alloc(), script, 3, b"", b"lash: statement 1: heavy\n")?);
     Ok(())
 }
 
 #[test]
 fn tells_a_fault_of_the_source(rt: HostRuntime) -> Result<(), Fail> {
-    let mut input = source(rt.alloc(), b"show (x int): x <= 3;", &[2])?;
-    let mut out = MemSink::new(rt.alloc(), 200, Vec::new(rt.alloc()))
-        .ok()
-        .ok_or("memory")?;
-    let mut err = MemSink::new(rt.alloc(), 200, Vec::new(rt.alloc()))
-        .ok()
-        .ok_or("memory")?;
-    let status = run(rt.alloc(), &[], &mut input, &mut out, &mut err);
+    let alloc = rt.alloc();
+    // Calls 1 to 5 give the 21 bytes of the statement, which is answered before call 6.
+    let mut input = source(alloc, b"show (x int): x <= 3;    show", &[6])?;
+    let mut out = sink(alloc, 200)?;
+    let mut err = sink(alloc, 200)?;
+    let status = run(alloc, &[], &mut input, &mut out, &mut err);
     assert_eq!(rt; status.code(), 6);
+    assert_eq!(rt; out.bytes(), UP_TO_THREE);
     assert_eq!(rt; err.bytes(), b"lash: read fault\n".as_slice());
     Ok(())
 }
 
 #[test]
 fn tells_a_fault_of_the_sink(rt: HostRuntime) -> Result<(), Fail> {
-    let mut input = source(rt.alloc(), b"show (x int): x <= 3;", &[])?;
-    let mut out = MemSink::new(rt.alloc(), 10, Vec::new(rt.alloc()))
-        .ok()
-        .ok_or("memory")?;
-    let mut err = MemSink::new(rt.alloc(), 6, Vec::new(rt.alloc()))
-        .ok()
-        .ok_or("memory")?;
-    let status = run(rt.alloc(), &[], &mut input, &mut out, &mut err);
+    let alloc = rt.alloc();
+    let mut input = source(alloc, b"show (x int): x <= 3;", &[])?;
+    let mut out = sink(alloc, 10)?;
+    let mut err = sink(alloc, 6)?;
+    let status = run(alloc, &[], &mut input, &mut out, &mut err);
     assert_eq!(rt; status.code(), 7);
     assert_eq!(rt; out.bytes(), b"lash 1\nbas".as_slice());
     assert_eq!(rt; err.bytes(), b"lash: ".as_slice());
+    Ok(())
+}
+
+#[test]
+fn takes_nothing_where_there_are_words(rt: HostRuntime) -> Result<(), Fail> {
+    let alloc = rt.alloc();
+    let mut words = Vec::new(alloc);
+    words.push(String::new(alloc)).map_err(|_| AllocError)?;
+    let mut input = source(alloc, b"show (x int): x <= 3;", &[1])?;
+    let mut out = sink(alloc, 10)?;
+    let mut err = sink(alloc, 200)?;
+    let status = run(alloc, words.as_slice(), &mut input, &mut out, &mut err);
+    assert_eq!(rt; status.code(), 9);
+    assert_eq!(rt; out.bytes(), b"".as_slice());
+    assert_eq!(rt; err.bytes(), b"lash: unbuilt\n".as_slice());
     Ok(())
 }

@@ -1,0 +1,56 @@
+//! How a run ends, with what its line tells.
+
+ghost use Rattle.std.specs.Prelude.{◌≡◌};
+ghost use Rattle.lash_command.specs.Lines.{status_of};
+
+use crate::status::Status;
+use script_meaning::{NameFault, Which};
+
+/// Why a statement is refused. A place is a number of script bytes.
+#[derive(Clone, Copy, Debug, PartialEq, Eq)]
+pub enum Refusal {
+    /// No statement goes on with the token at the place.
+    Syntax { place: u64 },
+    /// The name at the place is the first wrong one.
+    Name { fault: NameFault, place: u64 },
+    /// The first limit that is passed.
+    Limit { which: Which },
+    /// A step of its table has more cells than the limit.
+    Heavy,
+}
+
+/// How a run ends. Statements are counted from 1.
+#[derive(Clone, Copy, Debug, PartialEq, Eq)]
+pub enum Ending {
+    /// All statements are answered.
+    Finished,
+    /// The words are not those of the command.
+    Usage,
+    /// A statement is refused, and those before it are answered.
+    Refused { statement: u64, refusal: Refusal },
+    ReadFault,
+    WriteFault,
+    NoMemory,
+    /// There are words, or a statement asks for what is not built yet.
+    Unbuilt,
+}
+
+impl Ending {
+    /// The status that goes with it.
+    pub fn status(&self) -> Status
+        ensures { result ≡ status_of self.now }
+    {
+        match self {
+            Ending::Finished => Status::Fine,
+            Ending::Usage => Status::Usage,
+            Ending::Refused { refusal, .. } => match refusal {
+                Refusal::Syntax { .. } | Refusal::Name { .. } => Status::Script,
+                Refusal::Limit { .. } | Refusal::Heavy => Status::TooLarge,
+            },
+            Ending::ReadFault => Status::ReadFault,
+            Ending::WriteFault => Status::WriteFault,
+            Ending::NoMemory => Status::NoMemory,
+            Ending::Unbuilt => Status::Unbuilt,
+        }
+    }
+}

@@ -1,0 +1,138 @@
+//! The line of an ending, on the second sink. Own. It goes out in one block, and takes no memory.
+
+ghost use Rattle.std.specs.Prelude.{◌≡◌, ◌≤◌, ◌++◌, codes, OnErr};
+ghost use Rattle.lash_model.specs.Faults.{IsFaultCounted};
+ghost use Rattle.lash_io.specs.Blocks.{Passes};
+ghost use Rattle.lash_io.specs.Sinks.{Puts};
+ghost use Rattle.lash_command.specs.Lines.{fault_words, place_text, limit_words, refusal_text, refused_line, line_of, IsReported};
+
+use crate::ending::{Ending, Refusal};
+use lash_io::{Block, Failed, Sink};
+use script_meaning::{NameFault, Which};
+
+/// What is wrong about a name.
+fn words_of_fault(fault: NameFault) -> &'static [u8]
+    ensures { result.now ≡ fault_words fault }
+{
+    match fault {
+        NameFault::Unknown => b"unknown name",
+        NameFault::Repeated => b"repeated name",
+        NameFault::Misused => b"misused name",
+    }
+}
+
+/// The words of a limit.
+fn words_of_limit(which: Which) -> &'static [u8]
+    ensures { result.now ≡ limit_words which }
+{
+    match which {
+        Which::StatementBytes => b"statement bytes",
+        Which::ScriptBytes => b"script bytes",
+        Which::Nesting => b"nesting",
+        Which::Literal => b"literal",
+        Which::LoopVariables => b"loop variables",
+        Which::Sets => b"sets",
+        Which::Nodes => b"nodes",
+        Which::Depth => b"depth",
+        Which::Coefficient => b"coefficient",
+        Which::Constant => b"constant",
+        Which::Letters => b"letters",
+        Which::Denominator => b"denominator",
+        Which::KeptCells => b"kept cells",
+    }
+}
+
+/// Puts what is wrong, and the number of script bytes before it.
+fn put_place<E: Sink>(
+    block: &mut Block,
+    sink: &mut E,
+    wrong: &[u8],
+    place: u64,
+) -> Result<(), Failed>
+    ensures bytes { Passes (E.held sink.old) block.old (E.held sink.new) block.new result (wrong.now ++ place_text place) }
+    ensures count { E.faults sink.old ≤ E.faults sink.new }
+    ensures cause { OnErr result (IsFaultCounted (E.faults sink.old) (E.faults sink.new)) }
+{
+    block.put(sink, wrong)?;
+    block.put(sink, b" at byte ")?;
+    block.put_number(sink, place)
+}
+
+/// Puts the limit that is passed.
+fn put_limit<E: Sink>(block: &mut Block, sink: &mut E, which: Which) -> Result<(), Failed>
+    ensures bytes { Passes (E.held sink.old) block.old (E.held sink.new) block.new result (codes "limit " ++ limit_words which) }
+    ensures count { E.faults sink.old ≤ E.faults sink.new }
+    ensures cause { OnErr result (IsFaultCounted (E.faults sink.old) (E.faults sink.new)) }
+{
+    block.put(sink, b"limit ")?;
+    block.put(sink, words_of_limit(which))
+}
+
+/// Puts why a statement is refused.
+fn put_refusal<E: Sink>(block: &mut Block, sink: &mut E, refusal: Refusal) -> Result<(), Failed>
+    ensures bytes { Passes (E.held sink.old) block.old (E.held sink.new) block.new result (refusal_text refusal) }
+    ensures count { E.faults sink.old ≤ E.faults sink.new }
+    ensures cause { OnErr result (IsFaultCounted (E.faults sink.old) (E.faults sink.new)) }
+{
+    match refusal {
+        Refusal::Syntax { place } => put_place(block, sink, b"syntax", place),
+        Refusal::Name { fault, place } => put_place(block, sink, words_of_fault(fault), place),
+        Refusal::Limit { which } => put_limit(block, sink, which),
+        Refusal::Heavy => block.put(sink, b"heavy"),
+    }
+}
+
+/// Puts the line of a refused statement.
+fn put_refused<E: Sink>(
+    block: &mut Block,
+    sink: &mut E,
+    statement: u64,
+    refusal: Refusal,
+) -> Result<(), Failed>
+    ensures bytes { Passes (E.held sink.old) block.old (E.held sink.new) block.new result (refused_line statement refusal) }
+    ensures count { E.faults sink.old ≤ E.faults sink.new }
+    ensures cause { OnErr result (IsFaultCounted (E.faults sink.old) (E.faults sink.new)) }
+{
+    block.put(sink, b"lash: statement ")?;
+    block.put_number(sink, statement)?;
+    block.put(sink, b": ")?;
+    put_refusal(block, sink, refusal)?;
+    block.put(sink, b"\n")
+}
+
+/// Puts the line of an ending.
+fn put_line<E: Sink>(block: &mut Block, sink: &mut E, ending: Ending) -> Result<(), Failed>
+    ensures bytes { Passes (E.held sink.old) block.old (E.held sink.new) block.new result (line_of ending) }
+    ensures count { E.faults sink.old ≤ E.faults sink.new }
+    ensures cause { OnErr result (IsFaultCounted (E.faults sink.old) (E.faults sink.new)) }
+{
+    match ending {
+        Ending::Finished => block.put(sink, b""),
+        Ending::Usage => block.put(sink, b"lash: usage: lash [-b BASE] [-m CELLS] [--gen N]\n"),
+        Ending::Refused { statement, refusal } => put_refused(block, sink, statement, refusal),
+        Ending::ReadFault => block.put(sink, b"lash: read fault\n"),
+        Ending::WriteFault => block.put(sink, b"lash: write fault\n"),
+        Ending::NoMemory => block.put(sink, b"lash: no memory\n"),
+        Ending::Unbuilt => block.put(sink, b"lash: unbuilt\n"),
+    }
+}
+
+/// Writes the line of an ending, in one block.
+fn write_line<E: Sink>(ending: Ending, err: &mut E) -> Result<(), Failed>
+    ensures text { Puts (E.held err.old) (E.held err.new) result (line_of ending) }
+    ensures cause { OnErr result (IsFaultCounted (E.faults err.old) (E.faults err.new)) }
+{
+    let mut block = Block::new();
+    put_line(&mut block, err, ending)?;
+    block.flush(err)
+}
+
+/// Writes the line of an ending, all of it or, where a fault of the sink is counted, a part.
+pub fn report<E: Sink>(ending: Ending, err: &mut E)
+    ensures { IsReported (line_of ending) (E.held err.old) (E.held err.new) (E.faults err.old) (E.faults err.new) }
+{
+    match write_line(ending, err) {
+        Ok(()) => {}
+        Err(_) => {}
+    }
+}
