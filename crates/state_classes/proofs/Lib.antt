@@ -1,3 +1,12 @@
+pub mod Agreeing
+pub mod Collecting
 pub mod Counting
+pub mod Exchanging
+pub mod Halving
+pub mod Joining
+pub mod Linking
+pub mod Listing
+pub mod Marking
 pub mod Naming
 pub mod Refining
+pub mod Splitting

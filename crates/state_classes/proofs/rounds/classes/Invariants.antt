@@ -1,6 +1,7 @@
 use Rattle.std.proofs.Common.{ℕ, ◌-◌, ◌<◌, ◌≤◌, length, slice_index}
 use Rattle.state_classes.proofs.Counting.{count_true}
-use Rattle.state_classes.proofs.Refining.{Coloured, own}
+use Rattle.state_classes.specs.Colourings.{Coloured}
+use Rattle.state_classes.proofs.Refining.{own}
 use Rattle.state_classes.proofs.rounds.classes.Given as goal
 
 abbrev pub invariant-rounds : goal.invariant-rounds
