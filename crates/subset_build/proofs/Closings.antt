@@ -6,7 +6,7 @@ use Rattle.std.proofs.Math.Nat.{pow-le-pow_right}
 use Rattle.std.proofs.lemmas.Bool.{cases_lt, cases_eq, false≢true}
 use Rattle.std.proofs.lemmas.List.{length-replicate, get_or-set_same, get_or-set_other, length-set, length_push, get_or_push, get_or_append_left, get_or_default, get_or_past, map-append}
 use Rattle.std.proofs.lemmas.List.Elements.{All-push, All-contains, All-nil, recursion_from_All, Contains-append_left, Contains-push}
-use Rattle.std.proofs.lemmas.List.Sums.{sum_by-cons, count_by-le-length}
+use Rattle.std.proofs.lemmas.List.Sums.{sum_by-cons}
 use Rattle.graph_laws.specs.Walks.{go}
 use Rattle.graph_laws.specs.Exploring.{list_at}
 use Rattle.graph_laws.proofs.Joining.{go-append}
@@ -211,30 +211,20 @@ closed t track sign m k h = same_set (λ q. (q < length m.marked) × (is_marked 
     marked : (q : ℕ) → IsSignReached t track sign q → is_marked m q ≡ true
     marked q r = subst (λ x. is_marked m x ≡ true) (sym r.leads) (word_marked t track sign m k h (root_over t track sign r.bit) r.word (h.begun r.bit r.bit_below) (recursion_from_All (λ d. d < t.base) r.word r.digits_in))
 
--- there is room for another state
-pub few_marked : (m : Marking) → IsMarking m → length m.states ≤ length m.marked
-few_marked m k = omega (arith, k.once, count_by-le-length (λ (b : Bool). b) m.marked)
-
 -- ---- the loops' turns, over their own names
-pub span_room : (t : Table) (base count track letter first stride d : ℕ) → AreOver base count track letter first stride → d < base → base ^ (count + 1) ≤ 4096 → first + d * stride < 4096
-span_room t base count track letter first stride d h lt few = omega (arith, h.below d lt, few)
-
 -- of all tracks
 pub one_track_more : (t : Table) (track : ℕ) → track < t.tracks → kept t + 1 ≡ t.tracks
 one_track_more t track lt = omega (arith, lt)
 
-pub letter_in : (t : Table) (track letter first stride d : ℕ) → track < t.tracks → AreOver t.base (kept t) track letter first stride → d < t.base → first + d * stride < letters t
-letter_in t track letter first stride d lt h below = subst (λ n. first + d * stride < t.base ^ n) (one_track_more t track lt) (h.below d below)
-
 pub sign_in : (t : Table) (track sign first stride b : ℕ) → track < t.tracks → AreOver 2 (kept t) track sign first stride → b < 2 → first + b * stride < 2 ^ t.tracks
 sign_in t track sign first stride b lt h below = subst (λ n. first + b * stride < 2 ^ n) (one_track_more t track lt) (h.below b below)
 
-pub met_root : (t : Table) (track sign first stride b q : ℕ) (m : Marking) → AreOver 2 (kept t) track sign first stride → b < 2 → IsClosing t track sign b 0 0 m → q < ints t → q ≡ slice_index t.roots (first + b * stride) → IsClosing t track sign (b + 1) 0 0 (met_state m q)
-met_root t track sign first stride b q m over lt h below e = root_more t track sign b q m h lt below (e ∙ ap (slice_index t.roots) (over.each b lt))
+pub met_root : (t : Table) (track sign first stride b root q : ℕ) (m : Marking) → AreOver 2 (kept t) track sign first stride → b < 2 → IsClosing t track sign b 0 0 m → root ≡ first + b * stride → q < ints t → q ≡ slice_index t.roots root → IsClosing t track sign (b + 1) 0 0 (met_state m q)
+met_root t track sign first stride b root q m over lt h is below e = root_more t track sign b q m h lt below (e ∙ ap (slice_index t.roots) (is ∙ over.each b lt))
 
-pub met_target : (t : Table) (track sign at state first stride d q : ℕ) (m : Marking) → AreOver t.base (kept t) track (sign_letter t.base (kept t) sign) first stride → d < t.base → IsFollowing t track sign at state d m → q < ints t → q ≡ slice_index t.rows (state * letters t + (first + d * stride)) → IsFollowing t track sign at state (d + 1) (met_state m q)
-met_target t track sign at state first stride d q m over lt h below e = record {
-  closing = digit_more t track sign at d q m h.closing h.within lt below (e ∙ ap (λ l. slice_index t.rows (state * letters t + l)) (over.each d lt) ∙ ap (λ x. target t track (sign_letter t.base (kept t) sign) x d) h.state_is);
+pub met_target : (t : Table) (track sign at state first stride d letter q : ℕ) (m : Marking) → AreOver t.base (kept t) track (sign_letter t.base (kept t) sign) first stride → d < t.base → IsFollowing t track sign at state d m → letter ≡ first + d * stride → q < ints t → q ≡ slice_index t.rows (state * letters t + letter) → IsFollowing t track sign at state (d + 1) (met_state m q)
+met_target t track sign at state first stride d letter q m over lt h is below e = record {
+  closing = digit_more t track sign at d q m h.closing h.within lt below (e ∙ ap (λ l. slice_index t.rows (state * letters t + l)) (is ∙ over.each d lt) ∙ ap (λ x. target t track (sign_letter t.base (kept t) sign) x d) h.state_is);
   within = omega (arith, h.within, states_longer (is_marked m q) m q);
   state_is = h.state_is ∙ sym (states_kept (is_marked m q) m q at h.within);
 }

@@ -3,13 +3,14 @@ use Rattle.std.proofs.Common.{◌≡◌, ℕ, zero, suc, ◌+◌, ◌*◌, ◌^�
 use Rattle.std.specs.Prelude.{slice_index, All, Contains, nat_eq, nat_le, nat_lt, ◌&&◌, ◌⊎◌}
 use Rattle.std.specs.List.{slice_index_or, range_with_len, AllPairs, list_any, Any}
 use Rattle.std.proofs.lemmas.Bool.{eqb-true, eq-eqb, ltb-true, le-leb, lt-ltb, and_parts, and_from}
-use Rattle.std.proofs.lemmas.List.{append-nil, append_assoc, take_more, flat_map_more}
+use Rattle.std.proofs.lemmas.List.{append_assoc, take_more, flat_map_more}
 use Rattle.std.proofs.lemmas.List.Folds.{Any-from_list_any, list_any_at}
 use Rattle.std.proofs.lemmas.List.FromFn.{map-range_with_len_more, length-range_with_len, get_or-range_with_len, length-map-range_with_len, get_or-map-range_with_len}
 use Rattle.std.proofs.lemmas.List.Elements.{All-contains, All-nil, All-cons, All-head, All-tail, Contains-append_cases, Contains-append_left, Contains-append_right}
 use Rattle.canonical_laws.proofs.Diagrams.{read_below, place_within}
 use Rattle.lash_model.specs.Tables.{Table, letters, ints, IsTable}
 use Rattle.subset_build.specs.Projection.{with_digit, kept, target, is_target, step_of_set, is_rising_in, IsRisingSet}
+use Rattle.subset_build.specs.Closing.{AreOver}
 use Rattle.subset_build.specs.Subsets.{targets, targets_of_set}
 use Rattle.subset_build.proofs.KeptLetters.{with_digit_below}
 use Rattle.subset_build.proofs.RisingSets.{filter_range, same_set, one_set}
@@ -127,10 +128,7 @@ ordered_proper t track letter set xs ys h lt small below e r = proper_set (Conta
     inside q k = subst (λ x. x < ints t) k.leads (target_below t track letter k.source k.digit h lt small (All-contains (λ q. q < ints t) set k.source below k.member) k.digit_below)
 
 -- ---- the loops' turns
-pub no_targets : (f : ℕ → ℕ) (xs : List ℕ) → xs ≡ xs ++ map f (range_with_len 0 0)
-no_targets f xs = sym (append-nil xs)
-
-pub target_more : (f : ℕ → ℕ) (xs ys zs : List ℕ) (d q : ℕ) → ys ≡ xs ++ map f (range_with_len 0 d) → zs ≡ ys ++ q ∷ [] → q ≡ f d → zs ≡ xs ++ map f (range_with_len 0 (d + 1))
+target_more : (f : ℕ → ℕ) (xs ys zs : List ℕ) (d q : ℕ) → ys ≡ xs ++ map f (range_with_len 0 d) → zs ≡ ys ++ q ∷ [] → q ≡ f d → zs ≡ xs ++ map f (range_with_len 0 (d + 1))
 target_more f xs ys zs d q e pushed is =
     pushed
     ∙ ap (λ us. us ++ q ∷ []) e
@@ -145,3 +143,7 @@ set_targets_more t track letter set xs ys i q lt e is more =
     ∙ flat_map_more (targets t track letter) [] (take i set) q
     ∙ ap (λ x. targets_of_set t track letter (take i set ++ x ∷ [])) is
     ∙ ap (targets_of_set t track letter) (sym (take_more set i 0 lt))
+
+-- the same over the letter that the code reckons
+pub pushed_more : (t : Table) (track letter state first stride d own q : ℕ) (xs ys zs : List ℕ) → AreOver t.base (kept t) track letter first stride → d < t.base → ys ≡ xs ++ map (target t track letter state) (range_with_len 0 d) → zs ≡ ys ++ q ∷ [] → own ≡ first + d * stride → q ≡ slice_index t.rows (state * letters t + own) → zs ≡ xs ++ map (target t track letter state) (range_with_len 0 (d + 1))
+pushed_more t track letter state first stride d own q xs ys zs over lt e pushed is value = target_more (target t track letter state) xs ys zs d q e pushed (value ∙ ap (λ l. slice_index t.rows (state * letters t + l)) (is ∙ over.each d lt))

@@ -1,5 +1,4 @@
-use Rattle.std.proofs.Common.{arith, ◌+◌, ◌∙◌, ap, sym, subst}
-use Rattle.std.specs.Prelude.{slice_index}
+use Rattle.std.proofs.Common.{arith, ◌+◌, sym, subst}
 use Rattle.subset_build.specs.Closing.{IsClosing}
 use Rattle.subset_build.proofs.KeptLetters.{few_signs}
 use Rattle.subset_build.proofs.Closings.{sign_in, met_root}
@@ -18,5 +17,4 @@ pub loop-bit-preserved : goal.loop-bit-preserved
 loop-bit-preserved g c =
     let t = c.args.signed.now.table.now.table in
     subst (IsClosing t c.args.signed.now.track c.args.signed.now.sign (c.loop-bit.bit + 1) 0 0) (sym c.in-Ok.ensures.met)
-    (met_root t c.args.signed.now.track c.args.signed.now.sign c.args.signed.now.roots.first c.args.signed.now.roots.stride c.loop-bit.bit c.root.result c.loop-bit.marks c.requires.roots c.loop-bit-test.true c.loop-bit.invariant c.root.ensures.below
-    (c.root.ensures.value ∙ ap (slice_index t.roots) c.letter.ensures))
+    (met_root t c.args.signed.now.track c.args.signed.now.sign c.args.signed.now.roots.first c.args.signed.now.roots.stride c.loop-bit.bit c.letter.result c.root.result c.loop-bit.marks c.requires.roots c.loop-bit-test.true c.loop-bit.invariant c.letter.ensures c.root.ensures.below c.root.ensures.value)
