@@ -1,5 +1,5 @@
 -- A node's table from those of its parts, and its first heavy step from theirs.
-use Rattle.std.proofs.Common.{ℕ, ◌≡◌, ◌+◌, ◌^◌, ◌≤◌, length, true, false, sym, ◌∙◌, subst, IsTrue}
+use Rattle.std.proofs.Common.{ℕ, ◌≡◌, ◌+◌, ◌^◌, ◌<◌, ◌≤◌, length, true, false, arith, sym, ◌∙◌, subst, IsTrue}
 use Rattle.std.proofs.lemmas.Bool.{or_left, or_right}
 use Rattle.std.specs.Prelude.{IfOk, IfErr}
 use Rattle.std.specs.declared.result.Result.{Result}
@@ -19,7 +19,7 @@ use Rattle.set_compile.specs.Conditions.{IsTermOver, IsNarrow}
 use Rattle.set_compile.specs.Positions.{shared}
 use Rattle.set_compile.specs.Steps.{own, IsShaped, IsOfAtom, IsOfPairs, IsOfSubsets, IsMade, IsFirstHeavy}
 use Rattle.set_compile.proofs.OwnTerms.{free_count}
-use Rattle.set_compile.proofs.Bodies.{tells_used, tells_unused}
+use Rattle.set_compile.proofs.Bodies.{used_count, tells_used, tells_unused}
 use Rattle.set_compile.proofs.Making.{one_more, shape_of}
 
 -- ---- results
@@ -104,6 +104,9 @@ bound_unused base m limit f u made same = tells_unused f m (sym (shape_of base (
 
 pub last_track : (base m limit : ℕ) (f : Formula) (u : Table) → IsMade base (m + 1) limit f u → uses m f ≡ true → kept u ≡ length (free_places f m)
 last_track base m limit f u made used = one_more base f m u used (shape_of base (m + 1) limit f u made)
+
+pub track_in : (base m limit : ℕ) (f : Formula) (u : Table) (track : ℕ) → IsMade base (m + 1) limit f u → uses m f ≡ true → track ≡ length (free_places f m) → track < u.tracks
+track_in base m limit f u track made used e = omega (arith, e, (shape_of base (m + 1) limit f u made).tracks_are, used_count f m used)
 
 pub unbound_made : (base m limit : ℕ) (f : Formula) (u : Table) → IsMade base (m + 1) limit f u → uses m f ≡ false → IsMade base m limit (Exists Int f) u
 unbound_made base m limit f u made unused = inr (unused, made)
