@@ -1,6 +1,7 @@
 pub mod Places
 pub mod Spreading
 pub mod OwnTerms
+pub mod Bodies
 pub mod Making
 pub mod Declaring
 pub mod Minimizing

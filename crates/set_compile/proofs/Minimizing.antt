@@ -1,13 +1,15 @@
--- The canonical table of a complement or a product accepts what that accepts.
-use Rattle.std.proofs.Common.{◌≡◌, ◌^◌, ◌<◌, sym, ap, ◌∙◌, subst}
-use Rattle.std.specs.Prelude.{All}
+-- The canonical table of a complement, a product or a projection accepts what that accepts.
+use Rattle.std.proofs.Common.{◌≡◌, ℕ, ◌^◌, ◌<◌, sym, ap, ◌∙◌, subst}
+use Rattle.std.specs.Prelude.{All, IsTrue, ◌↔◌}
 use Rattle.std.proofs.lemmas.List.Elements.{recursion_from_All}
+use Rattle.lash_model.specs.Acceptance.{accepts_word}
 use Rattle.lash_model.specs.Tables.{Table, letters}
 use Rattle.canonical_laws.specs.Canonical.{AcceptSameWords}
 use Rattle.product_ops.specs.Negation.{AcceptsOthers}
 use Rattle.product_ops.specs.Pairs.{AcceptsBoth}
 use Rattle.product_ops.specs.Tracks.{TrackLists}
 use Rattle.product_ops.specs.declared.operation.Op.{Op}
+use Rattle.subset_build.specs.Projection.{kept, IsAcceptedOver, AcceptsSome}
 
 pub others_kept : (t v u : Table) → v.base ≡ t.base → v.tracks ≡ t.tracks → AcceptsOthers t v → AcceptSameWords v u → AcceptsOthers t u
 others_kept t v u base tracks others same sign w lt ls =
@@ -20,3 +22,9 @@ both_kept op a b m t u base tracks both same sign w lt ls =
     let sign_in = subst (λ n. sign < 2 ^ n) (sym tracks) lt in
     let word_in = subst (λ k. All (λ l. l < k) w) (sym (ap (λ r. r ^ t.tracks) base ∙ ap (λ n. a.base ^ n) tracks)) ls in
     sym (same sign w sign_in (recursion_from_All (λ l. l < letters t) w word_in)) ∙ both sign w lt ls
+
+pub some_kept : (a : Table) (track : ℕ) (t u : Table) → t.base ≡ a.base → t.tracks ≡ kept a → AcceptsSome a track t → AcceptSameWords t u → AcceptsSome a track u
+some_kept a track t u base tracks some same sign w lt ls =
+    let sign_in = subst (λ n. sign < 2 ^ n) (sym tracks) lt in
+    let word_in = subst (λ k. All (λ l. l < k) w) (sym (ap (λ r. r ^ t.tracks) base ∙ ap (λ n. a.base ^ n) tracks)) ls in
+    subst (λ b. IsTrue b ↔ IsAcceptedOver a track sign w) (same sign w sign_in (recursion_from_All (λ l. l < letters t) w word_in)) (some sign w lt ls)

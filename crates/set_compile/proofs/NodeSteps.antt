@@ -1,12 +1,12 @@
 -- A node's table from those of its parts, and its first heavy step from theirs.
-use Rattle.std.proofs.Common.{ℕ, ◌+◌, ◌^◌, ◌≤◌, length, sym, ◌∙◌, subst, IsTrue}
+use Rattle.std.proofs.Common.{ℕ, ◌≡◌, ◌+◌, ◌^◌, ◌<◌, ◌≤◌, length, true, false, arith, sym, ◌∙◌, subst, IsTrue}
 use Rattle.std.proofs.lemmas.Bool.{or_left, or_right}
 use Rattle.std.specs.Prelude.{IfOk, IfErr}
 use Rattle.std.specs.declared.result.Result.{Result}
 use Rattle.std.specs.declared.result.Result.TheVariants.{Ok, Err}
 use mathlib.Core.Logic.{inl, inr}
 use Rattle.graph_laws.specs.Exploring.{IsHeavy}
-use Rattle.lash_model.specs.Formulas.{Linear, IsLinear, Formula, Le, Eq, Not, And, Or, Exists}
+use Rattle.lash_model.specs.Formulas.{Int, Linear, IsLinear, Formula, Le, Eq, Not, And, Or, Exists}
 use Rattle.lash_model.specs.Tables.{Table}
 use Rattle.lash_model.specs.Thresholds.{AtMost, Equal, IsHeavyAtom}
 use Rattle.formula_core.specs.Counts.{uses, free_places}
@@ -14,11 +14,13 @@ use Rattle.formula_core.specs.FewLetters.{HasFewLetters}
 use Rattle.product_ops.specs.Negation.{AcceptsOthers}
 use Rattle.product_ops.specs.Pairs.{pairs}
 use Rattle.product_ops.specs.declared.operation.Op.TheVariants.{And as Both, Or as Either}
+use Rattle.subset_build.specs.Projection.{kept, IsHeavyProjection}
 use Rattle.set_compile.specs.Conditions.{IsTermOver, IsNarrow}
 use Rattle.set_compile.specs.Positions.{shared}
-use Rattle.set_compile.specs.Steps.{own, IsShaped, IsOfAtom, IsOfPairs, IsMade, IsFirstHeavy}
+use Rattle.set_compile.specs.Steps.{own, IsShaped, IsOfAtom, IsOfPairs, IsOfSubsets, IsMade, IsFirstHeavy}
 use Rattle.set_compile.proofs.OwnTerms.{free_count}
-use Rattle.set_compile.proofs.Making.{shape_of}
+use Rattle.set_compile.proofs.Bodies.{used_count, tells_used, tells_unused}
+use Rattle.set_compile.proofs.Making.{one_more, shape_of}
 
 -- ---- results
 pub both_ok : {T E : Type 0} (r : Result T E) (P Q R : T → Type 0) → ((x : T) → P x → Q x → R x) → IfOk r P → IfOk r Q → IfOk r R
@@ -91,3 +93,30 @@ and_pairs_heavy base m limit f g u v left right h = inr (inr (u, (v, ((left, rig
 
 pub or_pairs_heavy : (base m limit : ℕ) (f g : Formula) (u v : Table) → IsMade base m limit f u → IsMade base m limit g v → IsHeavy (pairs u v (shared (Or f g) f g m)) limit → IsFirstHeavy base m limit (Or f g)
 or_pairs_heavy base m limit f g u v left right h = inr (inr (u, (v, ((left, right), h))))
+
+-- ---- bound variables
+-- whether the body's table has as many tracks as the whole has free places tells whether the body uses the bound variable
+pub bound_used : (base m limit : ℕ) (f : Formula) (u : Table) → IsMade base (m + 1) limit f u → (u.tracks ≡ length (free_places f m) → ⊥) → uses m f ≡ true
+bound_used base m limit f u made other = tells_used f m (λ e. other ((shape_of base (m + 1) limit f u made).tracks_are ∙ e))
+
+pub bound_unused : (base m limit : ℕ) (f : Formula) (u : Table) → IsMade base (m + 1) limit f u → u.tracks ≡ length (free_places f m) → uses m f ≡ false
+bound_unused base m limit f u made same = tells_unused f m (sym (shape_of base (m + 1) limit f u made).tracks_are ∙ same)
+
+pub last_track : (base m limit : ℕ) (f : Formula) (u : Table) → IsMade base (m + 1) limit f u → uses m f ≡ true → kept u ≡ length (free_places f m)
+last_track base m limit f u made used = one_more base f m u used (shape_of base (m + 1) limit f u made)
+
+pub track_in : (base m limit : ℕ) (f : Formula) (u : Table) (track : ℕ) → IsMade base (m + 1) limit f u → uses m f ≡ true → track ≡ length (free_places f m) → track < u.tracks
+track_in base m limit f u track made used e = omega (arith, e, (shape_of base (m + 1) limit f u made).tracks_are, used_count f m used)
+
+pub unbound_made : (base m limit : ℕ) (f : Formula) (u : Table) → IsMade base (m + 1) limit f u → uses m f ≡ false → IsMade base m limit (Exists Int f) u
+unbound_made base m limit f u made unused = inr (unused, made)
+
+pub bound_made : (base m limit : ℕ) (f : Formula) (u t : Table) → IsMade base (m + 1) limit f u → uses m f ≡ true → IsShaped u.base (kept u) t → IsOfSubsets u (length (free_places f m)) limit t → IsMade base m limit (Exists Int f) t
+bound_made base m limit f u t made used shape subsets =
+    inl (used, (record { canonical = shape.canonical; base_is = shape.base_is ∙ (shape_of base (m + 1) limit f u made).base_is; tracks_are = shape.tracks_are ∙ last_track base m limit f u made used }, (u, (made, subsets))))
+
+pub body_heavy : (base m limit : ℕ) (f : Formula) → IsFirstHeavy base (m + 1) limit f → IsFirstHeavy base m limit (Exists Int f)
+body_heavy base m limit f h = inl h
+
+pub subsets_heavy : (base m limit : ℕ) (f : Formula) (u : Table) → IsMade base (m + 1) limit f u → uses m f ≡ true → IsHeavyProjection u (length (free_places f m)) limit → IsFirstHeavy base m limit (Exists Int f)
+subsets_heavy base m limit f u made used h = inr (used, (u, (made, h)))

@@ -27,13 +27,13 @@ use Rattle.set_compile.proofs.Places.{at_position, position_below, mapped_twice,
 abbrev pub Depends : Type 0
 Depends = (f : Formula) (ns ms : List ℤ) (d : ℕ) → HasLinearAtoms f → length ns ≡ length ms → ((place : ℕ) → IsTrue (uses place f) → get_or ns place (pos 0) ≡ get_or ms place (pos 0)) → holds f ns d ↔ holds f ms d
 
-entry_in : (m : ℕ) (vs : List ℕ) (ns : List ℤ) (p : ℕ) → p < m → get_or (spread m vs ns) p (pos 0) ≡ get_or ns (position_of vs p) (pos 0)
+pub entry_in : (m : ℕ) (vs : List ℕ) (ns : List ℤ) (p : ℕ) → p < m → get_or (spread m vs ns) p (pos 0) ≡ get_or ns (position_of vs p) (pos 0)
 entry_in m vs ns p lt = entry-vector (λ q. get_or ns (position_of vs q) (pos 0)) m p lt
 
-length-spread : (m : ℕ) (vs : List ℕ) (ns : List ℤ) → length (spread m vs ns) ≡ m
+pub length-spread : (m : ℕ) (vs : List ℕ) (ns : List ℤ) → length (spread m vs ns) ≡ m
 length-spread m vs ns = length-vector_from (λ q. get_or ns (position_of vs q) (pos 0)) 0 m
 
-entry_past : (m : ℕ) (vs : List ℕ) (ns : List ℤ) (p : ℕ) → m ≤ p → get_or (spread m vs ns) p (pos 0) ≡ pos 0
+pub entry_past : (m : ℕ) (vs : List ℕ) (ns : List ℤ) (p : ℕ) → m ≤ p → get_or (spread m vs ns) p (pos 0) ≡ pos 0
 entry_past m vs ns p le = get_or_past (spread m vs ns) p (pos 0) (omega (arith, length-spread m vs ns, le))
 
 -- what a part's table reads of the whole's numerators says of the part what the whole's numerators say

@@ -1,6 +1,6 @@
--- The formulas that are compiled: over so many variables, with atoms inside the limits, and without quantifiers.
-use Rattle.std.specs.Prelude.{ℕ, ◌+◌, ◌<◌, All, length}
-use Rattle.lash_model.specs.Formulas.{Linear, IsInside, Formula, Le, Eq, Not, And, Or, Exists}
+-- The formulas that are compiled: over so many variables, with atoms inside the limits, and with bound integers alone.
+use Rattle.std.specs.Prelude.{ℕ, ◌+◌, ◌<◌, ◌≡◌, All, length}
+use Rattle.lash_model.specs.Formulas.{Int, Linear, IsInside, Formula, Le, Eq, Not, And, Or, Exists}
 use Rattle.formula_core.specs.Counts.{free_places}
 use Rattle.formula_core.specs.FewLetters.{AreFew}
 
@@ -18,14 +18,14 @@ IsOver m (And f g) = IsOver m f × IsOver m g
 IsOver m (Or f g) = IsOver m f × IsOver m g
 IsOver m (Exists s f) = IsOver (m + 1) f
 
--- no variable is bound
-abbrev pub HasNoQuantifier : Formula → Type 0
-HasNoQuantifier (Le a) = Unit {0}
-HasNoQuantifier (Eq a) = Unit {0}
-HasNoQuantifier (Not f) = HasNoQuantifier f
-HasNoQuantifier (And f g) = HasNoQuantifier f × HasNoQuantifier g
-HasNoQuantifier (Or f g) = HasNoQuantifier f × HasNoQuantifier g
-HasNoQuantifier (Exists s f) = ⊥
+-- each bound variable is an integer
+abbrev pub BindsIntegers : Formula → Type 0
+BindsIntegers (Le a) = Unit {0}
+BindsIntegers (Eq a) = Unit {0}
+BindsIntegers (Not f) = BindsIntegers f
+BindsIntegers (And f g) = BindsIntegers f × BindsIntegers g
+BindsIntegers (Or f g) = BindsIntegers f × BindsIntegers g
+BindsIntegers (Exists s f) = (s ≡ Int) × BindsIntegers f
 
 -- at each node the letters over the free variables are few: what `HasFewLetters` says, and it unfolds by itself
 abbrev pub IsNarrow : ℕ → ℕ → Formula → Type 0

@@ -1,17 +1,18 @@
 -- The steps that build a formula's table (own): one for each node, its parts first and the left part before the right one. Each has the
--- whole limit of cells. A complement has no cells.
-use Rattle.std.specs.Prelude.{◌≡◌, ℕ, suc, ◌<◌, ◌⊎◌, List, [], ◌∷◌, length, ℤ, pos}
+-- whole limit of cells. A complement has no cells, and a bound variable that its body does not use costs no step.
+use Rattle.std.specs.Prelude.{◌≡◌, ℕ, suc, ◌+◌, ◌<◌, ◌⊎◌, true, false, List, [], ◌∷◌, length, ℤ, pos}
 use Rattle.graph_laws.specs.Exploring.{IsHeavy}
 use Rattle.lash_model.specs.Formulas.{Linear, Formula, Le, Eq, Not, And, Or, Exists}
 use Rattle.lash_model.specs.Tables.{Table}
 use Rattle.lash_model.specs.Thresholds.{Comparison, AtMost, Equal, IsAtomTable, IsHeavyAtom}
 use Rattle.canonical_laws.specs.Canonical.{IsCanonical, AcceptSameWords}
-use Rattle.formula_core.specs.Counts.{free_places}
+use Rattle.formula_core.specs.Counts.{uses, free_places}
 use Rattle.product_ops.specs.Negation.{AcceptsOthers}
 use Rattle.product_ops.specs.Pairs.{pairs, IsPairTable, AcceptsBoth}
 use Rattle.product_ops.specs.Tracks.{TrackLists}
 use Rattle.product_ops.specs.declared.operation.Op.{Op}
 use Rattle.product_ops.specs.declared.operation.Op.TheVariants.{And as Both, Or as Either}
+use Rattle.subset_build.specs.Projection.{IsSubsetTable, IsHeavyProjection, AcceptsSome}
 use Rattle.set_compile.specs.Positions.{shared}
 
 -- the terms at the places from n on, one after another
@@ -41,14 +42,21 @@ pub record IsOfPairs (op : Op) (u v : Table) (m : TrackLists) (limit : ℕ) (t :
   pub counts : IsPairTable op u v m limit pair_table
   pub words : AcceptsBoth op u v m t
 
--- the canonical table of a formula over m variables, over the free ones among them, all of whose steps are within the limit
+-- the subsets of a table along a track are within the limit, and the table accepts where some digits on the track are accepted
+pub record IsOfSubsets (u : Table) (track limit : ℕ) (t : Table) : Type 0 where
+  pub subset_table : Table
+  pub counts : IsSubsetTable u track limit subset_table
+  pub words : AcceptsSome u track t
+
+-- the canonical table of a formula over m variables, over the free ones among them, all of whose steps are within the limit. A variable
+-- that is bound over m variables stands at place m: where the body uses it, its track is the last of the body's table
 abbrev pub IsMade : ℕ → ℕ → ℕ → Formula → Table → Type 0
 IsMade base m limit (Le a) t = IsShaped base (length (free_places (Le a) m)) t × IsOfAtom AtMost (own a) base (length (free_places (Le a) m)) limit t
 IsMade base m limit (Eq a) t = IsShaped base (length (free_places (Eq a) m)) t × IsOfAtom Equal (own a) base (length (free_places (Eq a) m)) limit t
 IsMade base m limit (Not f) t = IsShaped base (length (free_places (Not f) m)) t × ((u : Table) × (IsMade base m limit f u × AcceptsOthers u t))
 IsMade base m limit (And f g) t = IsShaped base (length (free_places (And f g) m)) t × ((u : Table) × ((v : Table) × ((IsMade base m limit f u × IsMade base m limit g v) × IsOfPairs Both u v (shared (And f g) f g m) limit t)))
 IsMade base m limit (Or f g) t = IsShaped base (length (free_places (Or f g) m)) t × ((u : Table) × ((v : Table) × ((IsMade base m limit f u × IsMade base m limit g v) × IsOfPairs Either u v (shared (Or f g) f g m) limit t)))
-IsMade base m limit (Exists s f) t = ⊥
+IsMade base m limit (Exists s f) t = ((uses m f ≡ true) × (IsShaped base (length (free_places (Exists s f) m)) t × ((u : Table) × (IsMade base (m + 1) limit f u × IsOfSubsets u (length (free_places (Exists s f) m)) limit t)))) ⊎ ((uses m f ≡ false) × IsMade base (m + 1) limit f t)
 
 -- both parts are made, and their pairs pass the limit
 abbrev pub HasHeavyPairs : ℕ → ℕ → ℕ → Formula → Formula → TrackLists → Type 0
@@ -61,7 +69,7 @@ IsFirstHeavy base m limit (Eq a) = IsHeavyAtom Equal (own a) base (length (free_
 IsFirstHeavy base m limit (Not f) = IsFirstHeavy base m limit f
 IsFirstHeavy base m limit (And f g) = IsFirstHeavy base m limit f ⊎ ((((u : Table) × IsMade base m limit f u) × IsFirstHeavy base m limit g) ⊎ HasHeavyPairs base m limit f g (shared (And f g) f g m))
 IsFirstHeavy base m limit (Or f g) = IsFirstHeavy base m limit f ⊎ ((((u : Table) × IsMade base m limit f u) × IsFirstHeavy base m limit g) ⊎ HasHeavyPairs base m limit f g (shared (Or f g) f g m))
-IsFirstHeavy base m limit (Exists s f) = ⊥
+IsFirstHeavy base m limit (Exists s f) = IsFirstHeavy base (m + 1) limit f ⊎ ((uses m f ≡ true) × ((u : Table) × (IsMade base (m + 1) limit f u × IsHeavyProjection u (length (free_places (Exists s f) m)) limit)))
 
 -- what is true of all vectors
 abbrev pub always : Formula

@@ -12,7 +12,7 @@ ghost use Rattle.formula_core.specs.FewLetters.{FitsLetters};
 ghost use Rattle.formula_core.specs.Shape.{formula_of};
 ghost use Rattle.formula_core.specs.Variables.{sort_of};
 ghost use Rattle.product_ops.specs.Operations.{set_of};
-ghost use Rattle.set_compile.specs.Conditions.{IsOver, HasNoQuantifier};
+ghost use Rattle.set_compile.specs.Conditions.{IsOver, BindsIntegers};
 ghost use Rattle.set_compile.specs.Positions.{spread};
 ghost use Rattle.set_compile.specs.Steps.{IsShaped, IsMade, IsWidened, IsCompiled, IsRefused, IsFirstHeavy, HasHeavyPairs, always, all_tracks};
 
@@ -92,9 +92,9 @@ fn widened(
 
 /// The canonical table of a formula's set over declared variables, by a step for each node, each within the limit of cells.
 ///
-/// At this stage all declared variables are integers, and the formula has no quantifier, as conditions. It is over the declared
-/// variables, its terms are inside the limits of coefficients and constants, its letters are few, and the limit of cells is at most 16,777,216.
-/// `Heavy` comes exactly where a step passes the limit, at the first that does.
+/// At this stage all variables, declared and bound, are integers, as conditions. The formula is over the declared variables, its terms are
+/// inside the limits of coefficients and constants, its letters are few, and the limit of cells is at most 16,777,216. `Heavy` comes
+/// exactly where a step passes the limit, at the first that does. A bound variable that its body does not use costs no step.
 pub fn compile(
     alloc: Global,
     base: Base,
@@ -104,7 +104,7 @@ pub fn compile(
 ) -> Result<Canon, CompileError>
     requires sorts { map sort_of sorts.now ≡ all_int (length sorts.now) }
     requires over { IsOver (length sorts.now) (formula_of formula.now) }
-    requires free { HasNoQuantifier (formula_of formula.now) }
+    requires free { BindsIntegers (formula_of formula.now) }
     requires letters { FitsLetters base (formula_of formula.now) (length sorts.now) }
     requires limit { limit ≤ 16777216 }
     ensures stands { IfOk result (λ c. StandsFor c.table (map sort_of sorts.now) (formula_of formula.now)) }

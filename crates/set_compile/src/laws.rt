@@ -7,6 +7,7 @@ ghost use Rattle.set_compile.specs.Steps.{IsMade, IsCompiled, IsRefused};
 
 use linear_atoms::heavy_or_table;
 use product_ops::heavy_or_pairs;
+use subset_build::heavy_or_subsets;
 
 /// A formula has one table: over its free variables, and over all that are declared.
 pub fn tables_are_unique()
@@ -20,4 +21,5 @@ pub fn heavy_or_compiled()
 {
     heavy_or_table();
     heavy_or_pairs();
+    heavy_or_subsets();
 }

@@ -2,6 +2,7 @@
 #![tactic(auto)]
 
 mod atoms;
+mod binding;
 mod compiling;
 mod errors;
 mod joining;

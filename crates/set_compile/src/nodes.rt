@@ -2,19 +2,20 @@
 
 ghost use Rattle.std.specs.Prelude.{◌≡◌, ◌≤◌, ◌^◌, ℕ, ℤ, List, IsTrue, length, IfOk, IfErr, OnOk};
 ghost use Rattle.graph_laws.specs.Exploring.{IsHeavy};
-ghost use Rattle.lash_model.specs.Formulas.{Formula as Set};
+ghost use Rattle.lash_model.specs.Formulas.{Formula as Set, And, Or};
 ghost use Rattle.lash_model.specs.Standing.{StandsForWhole};
 ghost use Rattle.formula_core.specs.Atoms.{HasLinearAtoms};
 ghost use Rattle.formula_core.specs.Counts.{uses, free_places};
 ghost use Rattle.formula_core.specs.Shape.{formula_of};
 ghost use Rattle.product_ops.specs.Operations.{joined as joined_sets, set_of};
 ghost use Rattle.product_ops.specs.Pairs.{pairs};
-ghost use Rattle.set_compile.specs.Conditions.{IsOver, HasNoQuantifier, IsNarrow};
+ghost use Rattle.set_compile.specs.Conditions.{IsOver, BindsIntegers, IsNarrow};
 ghost use Rattle.set_compile.specs.Positions.{shared, spread};
 ghost use Rattle.set_compile.specs.Steps.{IsShaped, IsOfPairs, IsMade, IsFirstHeavy};
 
 use crate::CompileError;
 use crate::atoms::atom_part;
+use crate::binding::bound;
 use crate::joining::join;
 use crate::negation::opposite;
 use crate::positions::shared_tracks;
@@ -58,8 +59,93 @@ fn joined(
     }
 }
 
-/// The canonical table of a formula over its free variables. The formula is over so many variables, has no quantifier, and its letters
+/// The table of a conjunction, from its parts: the left one first.
+#[cycle(part)]
+fn conjunction(
+    alloc: Global,
+    base: Base,
+    whole: &Formula,
+    left: &Formula,
+    right: &Formula,
+    places: u32,
+    limit: u64,
+) -> Result<Canon, CompileError>
+    requires whole { formula_of whole.now ≡ And (formula_of left.now) (formula_of right.now) }
+    requires over { IsOver places (And (formula_of left.now) (formula_of right.now)) }
+    requires free { BindsIntegers (And (formula_of left.now) (formula_of right.now)) }
+    requires letters { IsNarrow base places (And (formula_of left.now) (formula_of right.now)) }
+    requires limit { limit ≤ 16777216 }
+    ensures linear { OnOk result (HasLinearAtoms (And (formula_of left.now) (formula_of right.now))) }
+    ensures shape { IfOk result (λ c. IsShaped base (length (free_places (And (formula_of left.now) (formula_of right.now)) places)) c.table) }
+    ensures made { IfOk result (λ c. IsMade base places limit (And (formula_of left.now) (formula_of right.now)) c.table) }
+    ensures stands { IfOk result (λ c. StandsForWhole c.table (set_of (And (formula_of left.now) (formula_of right.now)) (spread places (free_places (And (formula_of left.now) (formula_of right.now)) places)))) }
+    ensures heavy { IfErr result (λ e. e ≡ CompileError.Heavy → IsFirstHeavy base places limit (And (formula_of left.now) (formula_of right.now))) }
+{
+    depends_on_free_places();
+    let first = match part(alloc, base, left, places, limit) {
+        Ok(first) => first,
+        Err(error) => return Err(error),
+    };
+    let second = match part(alloc, base, right, places, limit) {
+        Ok(second) => second,
+        Err(error) => return Err(error),
+    };
+    joined(
+        alloc,
+        whole,
+        (left, &first),
+        (right, &second),
+        places,
+        Op::And,
+        limit,
+    )
+}
+
+/// The table of a disjunction, from its parts: the left one first.
+#[cycle(part)]
+fn disjunction(
+    alloc: Global,
+    base: Base,
+    whole: &Formula,
+    left: &Formula,
+    right: &Formula,
+    places: u32,
+    limit: u64,
+) -> Result<Canon, CompileError>
+    requires whole { formula_of whole.now ≡ Or (formula_of left.now) (formula_of right.now) }
+    requires over { IsOver places (Or (formula_of left.now) (formula_of right.now)) }
+    requires free { BindsIntegers (Or (formula_of left.now) (formula_of right.now)) }
+    requires letters { IsNarrow base places (Or (formula_of left.now) (formula_of right.now)) }
+    requires limit { limit ≤ 16777216 }
+    ensures linear { OnOk result (HasLinearAtoms (Or (formula_of left.now) (formula_of right.now))) }
+    ensures shape { IfOk result (λ c. IsShaped base (length (free_places (Or (formula_of left.now) (formula_of right.now)) places)) c.table) }
+    ensures made { IfOk result (λ c. IsMade base places limit (Or (formula_of left.now) (formula_of right.now)) c.table) }
+    ensures stands { IfOk result (λ c. StandsForWhole c.table (set_of (Or (formula_of left.now) (formula_of right.now)) (spread places (free_places (Or (formula_of left.now) (formula_of right.now)) places)))) }
+    ensures heavy { IfErr result (λ e. e ≡ CompileError.Heavy → IsFirstHeavy base places limit (Or (formula_of left.now) (formula_of right.now))) }
+{
+    depends_on_free_places();
+    let first = match part(alloc, base, left, places, limit) {
+        Ok(first) => first,
+        Err(error) => return Err(error),
+    };
+    let second = match part(alloc, base, right, places, limit) {
+        Ok(second) => second,
+        Err(error) => return Err(error),
+    };
+    joined(
+        alloc,
+        whole,
+        (left, &first),
+        (right, &second),
+        places,
+        Op::Or,
+        limit,
+    )
+}
+
+/// The canonical table of a formula over its free variables. The formula is over so many variables, binds integers alone, and its letters
 /// are few; the limit of cells is at most 16,777,216. `Heavy` comes exactly where some step passes the limit, at the first that does.
+#[cycle(part)]
 pub fn part(
     alloc: Global,
     base: Base,
@@ -68,7 +154,7 @@ pub fn part(
     limit: u64,
 ) -> Result<Canon, CompileError>
     requires over { IsOver places (formula_of formula.now) }
-    requires free { HasNoQuantifier (formula_of formula.now) }
+    requires free { BindsIntegers (formula_of formula.now) }
     requires letters { IsNarrow base places (formula_of formula.now) }
     requires limit { limit ≤ 16777216 }
     ensures linear { OnOk result (HasLinearAtoms (formula_of formula.now)) }
@@ -77,7 +163,6 @@ pub fn part(
     ensures stands { IfOk result (λ c. StandsForWhole c.table (set_of (formula_of formula.now) (spread places (free_places (formula_of formula.now) places)))) }
     ensures heavy { IfErr result (λ e. e ≡ CompileError.Heavy → IsFirstHeavy base places limit (formula_of formula.now)) }
 {
-    depends_on_free_places();
     match formula {
         Formula::Le(term) => atom_part(alloc, base, term, AtomKind::Le, limit),
         Formula::Eq(term) => atom_part(alloc, base, term, AtomKind::Eq, limit),
@@ -86,43 +171,16 @@ pub fn part(
             Err(error) => Err(error),
         },
         Formula::And(left, right) => {
-            let first = match part(alloc, base, left, places, limit) {
-                Ok(first) => first,
-                Err(error) => return Err(error),
-            };
-            let second = match part(alloc, base, right, places, limit) {
-                Ok(second) => second,
-                Err(error) => return Err(error),
-            };
-            joined(
-                alloc,
-                formula,
-                (left, &first),
-                (right, &second),
-                places,
-                Op::And,
-                limit,
-            )
+            conjunction(alloc, base, formula, left, right, places, limit)
         }
-        Formula::Or(left, right) => {
-            let first = match part(alloc, base, left, places, limit) {
-                Ok(first) => first,
-                Err(error) => return Err(error),
-            };
-            let second = match part(alloc, base, right, places, limit) {
-                Ok(second) => second,
-                Err(error) => return Err(error),
-            };
-            joined(
-                alloc,
-                formula,
-                (left, &first),
-                (right, &second),
-                places,
-                Op::Or,
-                limit,
-            )
-        }
-        Formula::Exists(_, _) => unreachable!(),
+        Formula::Or(left, right) => disjunction(alloc, base, formula, left, right, places, limit),
+        // A formula with so many bound variables is larger than any memory.
+        Formula::Exists(_, inner) => match places.checked_add(1) {
+            Some(within) => match part(alloc, base, inner, within, limit) {
+                Ok(body) => bound(alloc, inner, body, places, limit),
+                Err(error) => Err(error),
+            },
+            None => Err(CompileError::Memory),
+        },
     }
 }

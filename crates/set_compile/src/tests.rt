@@ -2,7 +2,7 @@
 
 ghost use Rattle.std.specs.Prelude.{◌≡◌, ◌<◌, ◌≤◌, ◌^◌, ℕ, pos, unsigned_abs, IfOk};
 ghost use Rattle.formula_core.specs.Shape.{formula_of};
-ghost use Rattle.set_compile.specs.Conditions.{IsOver, HasNoQuantifier};
+ghost use Rattle.set_compile.specs.Conditions.{IsOver, BindsIntegers};
 
 use super::*;
 use crate::atoms::append;
@@ -21,7 +21,7 @@ fn at_most(alloc: Global, coefficient: &i128, constant: &i128) -> Result<Formula
     requires small { unsigned_abs coefficient.now ≤ 2 ^ 24 }
     requires low { unsigned_abs constant.now ≤ 2 ^ 40 }
     ensures over { IfOk result (λ f. (m : ℕ) → 0 < m → IsOver m (formula_of f)) }
-    ensures free { IfOk result (λ f. HasNoQuantifier (formula_of f)) }
+    ensures free { IfOk result (λ f. BindsIntegers (formula_of f)) }
 {
     let mut term = Linear::new(alloc, *constant);
     match append(&mut term, 0, coefficient) {
@@ -32,9 +32,9 @@ fn at_most(alloc: Global, coefficient: &i128, constant: &i128) -> Result<Formula
 
 fn not(alloc: Global, inner: Formula) -> Result<Formula, Memory>
     requires over { IsOver 1 (formula_of inner) }
-    requires free { HasNoQuantifier (formula_of inner) }
+    requires free { BindsIntegers (formula_of inner) }
     ensures over { IfOk result (λ f. IsOver 1 (formula_of f)) }
-    ensures free { IfOk result (λ f. HasNoQuantifier (formula_of f)) }
+    ensures free { IfOk result (λ f. BindsIntegers (formula_of f)) }
 {
     match Box::new(alloc, inner) {
         Ok(inner) => Ok(Formula::Not(inner)),
@@ -45,10 +45,10 @@ fn not(alloc: Global, inner: Formula) -> Result<Formula, Memory>
 fn and(alloc: Global, left: Formula, right: Formula) -> Result<Formula, Memory>
     requires left { IsOver 1 (formula_of left) }
     requires right { IsOver 1 (formula_of right) }
-    requires left_free { HasNoQuantifier (formula_of left) }
-    requires right_free { HasNoQuantifier (formula_of right) }
+    requires left_free { BindsIntegers (formula_of left) }
+    requires right_free { BindsIntegers (formula_of right) }
     ensures over { IfOk result (λ f. IsOver 1 (formula_of f)) }
-    ensures free { IfOk result (λ f. HasNoQuantifier (formula_of f)) }
+    ensures free { IfOk result (λ f. BindsIntegers (formula_of f)) }
 {
     let first = match Box::new(alloc, left) {
         Ok(first) => first,
@@ -63,10 +63,10 @@ fn and(alloc: Global, left: Formula, right: Formula) -> Result<Formula, Memory>
 fn or(alloc: Global, left: Formula, right: Formula) -> Result<Formula, Memory>
     requires left { IsOver 1 (formula_of left) }
     requires right { IsOver 1 (formula_of right) }
-    requires left_free { HasNoQuantifier (formula_of left) }
-    requires right_free { HasNoQuantifier (formula_of right) }
+    requires left_free { BindsIntegers (formula_of left) }
+    requires right_free { BindsIntegers (formula_of right) }
     ensures over { IfOk result (λ f. IsOver 1 (formula_of f)) }
-    ensures free { IfOk result (λ f. HasNoQuantifier (formula_of f)) }
+    ensures free { IfOk result (λ f. BindsIntegers (formula_of f)) }
 {
     let first = match Box::new(alloc, left) {
         Ok(first) => first,
@@ -86,7 +86,7 @@ fn over_one(
     limit: u64,
 ) -> Result<Canon, CompileError>
     requires over { IsOver 1 (formula_of formula.now) }
-    requires free { HasNoQuantifier (formula_of formula.now) }
+    requires free { BindsIntegers (formula_of formula.now) }
     requires limit { limit ≤ 16777216 }
 {
     let two = match Base::new(2) {
@@ -105,7 +105,7 @@ fn over_two(
     limit: u64,
 ) -> Result<Canon, CompileError>
     requires over { IsOver 2 (formula_of formula.now) }
-    requires free { HasNoQuantifier (formula_of formula.now) }
+    requires free { BindsIntegers (formula_of formula.now) }
     requires limit { limit ≤ 16777216 }
 {
     let two = match Base::new(2) {

@@ -1,0 +1,71 @@
+use Rattle.std.proofs.Common.{◌≡◌, ◌+◌, ℕ, length, true, false, arith, sym, ap, ◌∙◌, subst}
+use Rattle.lash_model.specs.Standing.{StandsForWhole}
+use Rattle.lash_model.specs.Tables.{Table}
+use Rattle.step_tables.specs.Kept.{Kept}
+use Rattle.formula_core.specs.Counts.{uses, free_places}
+use Rattle.formula_core.specs.Shape.{formula_of}
+use Rattle.subset_build.specs.Projection.{kept, set_of, bound_at, IsHeavyProjection}
+use Rattle.set_compile.specs.Positions.{spread}
+use Rattle.set_compile.specs.Steps.{IsOfSubsets}
+use Rattle.set_compile.proofs.Bodies.{bound_stands, unbound_stands}
+use Rattle.set_compile.proofs.NodeSteps.{bound_used, bound_unused, last_track, track_in, unbound_made, bound_made, subsets_heavy}
+use Rattle.set_compile.proofs.Spreading.{at_most_all}
+use Rattle.set_compile.proofs.binding.bound.Goals as goal
+
+pub overflow_cast-track : goal.overflow_cast-track
+overflow_cast-track c = omega (arith, c.len-track.ensures, ap length c.in-Ok.ensures.places, at_most_all (λ p. uses p (formula_of c.args.inner.now)) 0 c.args.place, c.ranges.place.fits)
+
+-- ---- a variable that is not used
+pub returns-then-tracks-track-clause-made : goal.returns-then-tracks-track-clause-made
+returns-then-tracks-track-clause-made c =
+    let f = formula_of c.args.inner.now in
+    let u : Table = c.args.body.table in
+    let count : c.len-track.result ≡ length (free_places f c.args.place) = omega (arith, c.len-track.ensures, ap length c.in-Ok.ensures.places) in
+    let same : u.tracks ≡ length (free_places f c.args.place) = sym (c.tracks.ensures ∙ ap (λ (k : Kept). k.table.tracks) c.table.ensures.value) ∙ c.if-tracks-track.true ∙ count in
+    unbound_made u.base c.args.place c.args.limit f u c.requires.made (bound_unused u.base c.args.place c.args.limit f u c.requires.made same)
+
+pub returns-then-tracks-track-clause-stands : goal.returns-then-tracks-track-clause-stands
+returns-then-tracks-track-clause-stands c =
+    let f = formula_of c.args.inner.now in
+    let u : Table = c.args.body.table in
+    let count : c.len-track.result ≡ length (free_places f c.args.place) = omega (arith, c.len-track.ensures, ap length c.in-Ok.ensures.places) in
+    let same : u.tracks ≡ length (free_places f c.args.place) = sym (c.tracks.ensures ∙ ap (λ (k : Kept). k.table.tracks) c.table.ensures.value) ∙ c.if-tracks-track.true ∙ count in
+    unbound_stands c.depends_on_free_places.ensures.used u f c.args.place c.in-Ok.ensures.linear (bound_unused u.base c.args.place c.args.limit f u c.requires.made same) c.requires.stands
+
+-- ---- a variable that is used
+pub projected-requires-clause-track : goal.projected-requires-clause-track
+projected-requires-clause-track c =
+    let f = formula_of c.args.inner.now in
+    let u : Table = c.args.body.table in
+    let count : c.len-track.result ≡ length (free_places f c.args.place) = omega (arith, c.len-track.ensures, ap length c.in-Ok.ensures.places) in
+    let used : uses c.args.place f ≡ true = bound_used u.base c.args.place c.args.limit f u c.requires.made (λ e. c.if-tracks-track.false (c.tracks.ensures ∙ ap (λ (k : Kept). k.table.tracks) c.table.ensures.value ∙ e ∙ sym count)) in
+    track_in u.base c.args.place c.args.limit f u c.len-track.result c.requires.made used count
+
+pub returns-in-Ok-projected-clause-made : goal.returns-in-Ok-projected-clause-made
+returns-in-Ok-projected-clause-made c =
+    let f = formula_of c.args.inner.now in
+    let u : Table = c.args.body.table in
+    let t = c.in-Ok-projected.made.table in
+    let count : c.len-track.result ≡ length (free_places f c.args.place) = omega (arith, c.len-track.ensures, ap length c.in-Ok.ensures.places) in
+    let used : uses c.args.place f ≡ true = bound_used u.base c.args.place c.args.limit f u c.requires.made (λ e. c.if-tracks-track.false (c.tracks.ensures ∙ ap (λ (k : Kept). k.table.tracks) c.table.ensures.value ∙ e ∙ sym count)) in
+    bound_made u.base c.args.place c.args.limit f u t c.requires.made used c.in-Ok-projected.ensures.shape (subst (λ n. IsOfSubsets u n c.args.limit t) count c.in-Ok-projected.ensures.made)
+
+pub returns-in-Ok-projected-clause-stands : goal.returns-in-Ok-projected-clause-stands
+returns-in-Ok-projected-clause-stands c =
+    let m : ℕ = c.args.place in
+    let f = formula_of c.args.inner.now in
+    let u : Table = c.args.body.table in
+    let t = c.in-Ok-projected.made.table in
+    let s = spread (m + 1) (free_places f (m + 1)) in
+    let count : c.len-track.result ≡ length (free_places f m) = omega (arith, c.len-track.ensures, ap length c.in-Ok.ensures.places) in
+    let used : uses m f ≡ true = bound_used u.base m c.args.limit f u c.requires.made (λ e. c.if-tracks-track.false (c.tracks.ensures ∙ ap (λ (k : Kept). k.table.tracks) c.table.ensures.value ∙ e ∙ sym count)) in
+    bound_stands t f m used (c.in-Ok-projected.ensures.shape.tracks_are ∙ last_track u.base m c.args.limit f u c.requires.made used)
+    (subst (λ n. StandsForWhole t (bound_at n (set_of f s))) count (c.in-Ok-projected.ensures.stands f s c.requires.stands))
+
+pub returns-clause-heavy : goal.returns-clause-heavy
+returns-clause-heavy c = λ is.
+    let f = formula_of c.args.inner.now in
+    let u : Table = c.args.body.table in
+    let count : c.len-track.result ≡ length (free_places f c.args.place) = omega (arith, c.len-track.ensures, ap length c.in-Ok.ensures.places) in
+    let used : uses c.args.place f ≡ true = bound_used u.base c.args.place c.args.limit f u c.requires.made (λ e. c.if-tracks-track.false (c.tracks.ensures ∙ ap (λ (k : Kept). k.table.tracks) c.table.ensures.value ∙ e ∙ sym count)) in
+    subsets_heavy u.base c.args.place c.args.limit f u c.requires.made used (subst (λ n. IsHeavyProjection u n c.args.limit) count (c.in-Err-projected.ensures.heavy is))

@@ -1,0 +1,77 @@
+//! The step of a bound variable: its body's table forgets the variable's track, and is made canonical.
+
+ghost use Rattle.std.specs.Prelude.{◌≡◌, ◌+◌, ◌-◌, ◌<◌, ◌≤◌, ℕ, ℤ, List, length, IfOk, IfErr, OnOk};
+ghost use Rattle.lash_model.specs.Formulas.{Int, Formula as Set, Exists};
+ghost use Rattle.lash_model.specs.Standing.{StandsForWhole};
+ghost use Rattle.formula_core.specs.Atoms.{HasLinearAtoms};
+ghost use Rattle.formula_core.specs.Counts.{free_places};
+ghost use Rattle.formula_core.specs.Shape.{formula_of};
+ghost use Rattle.subset_build.specs.Projection.{set_of, bound_at, IsHeavyProjection};
+ghost use Rattle.set_compile.specs.Positions.{spread};
+ghost use Rattle.set_compile.specs.Steps.{IsShaped, IsOfSubsets, IsMade, IsFirstHeavy};
+
+use crate::CompileError;
+use formula_core::{Formula, depends_on_free_places, free_vars};
+use lash_io::Memory;
+use std::alloc::Global;
+use step_tables::BuildError;
+use subset_build::project_int;
+use weak_min::{Canon, canonical};
+
+/// The canonical table that forgets a track of the given one. The limit of cells is at most 16,777,216. `Heavy` comes exactly where the
+/// subsets pass the limit.
+fn projected(
+    alloc: Global,
+    body: &Canon,
+    track: u32,
+    limit: u64,
+) -> Result<Canon, CompileError>
+    requires track { track < body.now.table.tracks }
+    requires limit { limit ≤ 16777216 }
+    ensures shape { IfOk result (λ c. IsShaped body.now.table.base (body.now.table.tracks - 1) c.table) }
+    ensures made { IfOk result (λ c. IsOfSubsets body.now.table track limit c.table) }
+    ensures stands { IfOk result (λ c. (f : Set) (s : List ℤ → List ℤ) → StandsForWhole body.now.table (set_of f s) → StandsForWhole c.table (bound_at track (set_of f s))) }
+    ensures heavy { IfErr result (λ e. e ≡ CompileError.Heavy → IsHeavyProjection body.now.table track limit) }
+{
+    let table = match project_int(alloc, body.table(), track, limit) {
+        Ok(table) => table,
+        Err(BuildError::Heavy) => return Err(CompileError::Heavy),
+        Err(BuildError::Memory) => return Err(CompileError::Memory),
+    };
+    match canonical(alloc, &table) {
+        Ok(made) => Ok(made),
+        Err(Memory) => Err(CompileError::Memory),
+    }
+}
+
+/// The canonical table of a formula over so many variables that binds an integer, at the next place, from its body's table. The limit of
+/// cells is at most 16,777,216. The variable's track is the last of the body's; a variable that the body does not use has none, and the
+/// body's table is the formula's. `Heavy` comes exactly where the subsets pass the limit.
+pub fn bound(
+    alloc: Global,
+    inner: &Formula,
+    body: Canon,
+    place: u32,
+    limit: u64,
+) -> Result<Canon, CompileError>
+    requires made { IsMade body.table.base (place + 1) limit (formula_of inner.now) body.table }
+    requires stands { StandsForWhole body.table (set_of (formula_of inner.now) (spread (place + 1) (free_places (formula_of inner.now) (place + 1)))) }
+    requires limit { limit ≤ 16777216 }
+    ensures made { IfOk result (λ c. IsMade body.table.base place limit (Exists Int (formula_of inner.now)) c.table) }
+    ensures stands { IfOk result (λ c. StandsForWhole c.table (set_of (Exists Int (formula_of inner.now)) (spread place (free_places (Exists Int (formula_of inner.now)) place)))) }
+    ensures heavy { IfErr result (λ e. e ≡ CompileError.Heavy → IsFirstHeavy body.table.base place limit (Exists Int (formula_of inner.now))) }
+{
+    depends_on_free_places();
+    let free = match free_vars(alloc, inner, place) {
+        Ok(free) => free,
+        Err(Memory) => return Err(CompileError::Memory),
+    };
+    let track = free.len() as u32;
+    if body.table().tracks() == track {
+        return Ok(body);
+    }
+    match projected(alloc, &body, track, limit) {
+        Ok(made) => Ok(made),
+        Err(error) => Err(error),
+    }
+}

@@ -1,0 +1,4 @@
+pub mod Projection
+pub mod Closing
+pub mod Subsets
+pub mod Filling

@@ -1,0 +1,20 @@
+//! The projection of automata over integers along a track: the subset construction, which forgets the digits of one track.
+#![tactic(auto)]
+
+mod closure;
+mod filling;
+mod kept_letters;
+mod laws;
+mod marks;
+mod outputs;
+mod projection;
+mod start_sets;
+mod subsets;
+
+pub use closure::sign_closure;
+pub use laws::{heavy_or_subsets, start_sets_are_unique};
+pub use projection::project_int;
+pub use start_sets::StartSets;
+
+#[cfg(test)]
+mod tests;
