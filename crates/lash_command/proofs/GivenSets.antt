@@ -1,5 +1,5 @@
--- A set that was read is one that is compiled: its terms are over the declared variables and inside the limits, nothing is bound, and
--- the variables are integers.
+-- A set that was read is one that is compiled: its terms are over the declared variables and inside the limits, and
+-- the variables, declared and bound, are integers.
 use Rattle.std.proofs.Common.{◌≡◌, ℕ, suc, ◌+◌, ◌<◌, List, [], ◌∷◌, length, map, arith, refl, sym, ◌∙◌, subst, ap, Bool, true, false, ◌||◌, cond, nat_lt, Option, None, Some}
 use Rattle.std.proofs.Math.IntN.{ℤ, ◌+ℤ◌, pos}
 use Rattle.std.specs.List.{AllByRecursion, All}
@@ -25,7 +25,7 @@ use Rattle.script_meaning.specs.declared.limits.Which.TheVariants.{Literal, Node
 use Rattle.script_meaning.proofs.Judging.{bound_some}
 use Rattle.script_parse.specs.Answers.{core_of}
 use Rattle.script_parse.specs.Plain.{IsPlainTree, IsInt, IsPlainSet}
-use Rattle.set_compile.specs.Conditions.{IsTermOver, IsOver, HasNoQuantifier}
+use Rattle.set_compile.specs.Conditions.{IsTermOver, IsOver, BindsIntegers}
 
 -- each place is below m
 abbrev AreBelow : ℕ → List (ℕ × ℤ) → Type 0
@@ -167,13 +167,13 @@ within_none base places tree f h =
 pub given_over : (base : ℕ) (set : ComprehensionShape) → IsWithin base (length set.vars) set.formula (core_of set) → IsOver (length set.vars) (core_of set)
 given_over base set h = subst (λ m. IsOver m (core_of set)) (length-map set.vars variable_of) (core_within (with_declared [] set.vars) set.formula (within_none base (length set.vars) set.formula (core_of set) h))
 
-compared_free : (scope : Scope) (a : List SignedShape) (r : Relation) (b : List SignedShape) → HasNoQuantifier (compared scope a r b)
-compared_free scope a AtMost b = tt
-compared_free scope a AtLeast b = tt
-compared_free scope a Below b = tt
-compared_free scope a Above b = tt
-compared_free scope a Equal b = tt
-compared_free scope a Unequal b = tt
+compared_bound : (scope : Scope) (a : List SignedShape) (r : Relation) (b : List SignedShape) → BindsIntegers (compared scope a r b)
+compared_bound scope a AtMost b = tt
+compared_bound scope a AtLeast b = tt
+compared_bound scope a Below b = tt
+compared_bound scope a Above b = tt
+compared_bound scope a Equal b = tt
+compared_bound scope a Unequal b = tt
 
 -- what holds of a formula holds of it with integers bound, where negation and binding an integer keep it
 pub bound_keeps : (P : Formula → Type 0) → ((f : Formula) → P f → P (CoreNot f)) → ((f : Formula) → P f → P (CoreExists Int f)) → (q : Quantifier) (ds : List DeclarationShape) (f : Formula) → AllByRecursion IsInt ds → P f → P (bound_all q ds f)
@@ -182,22 +182,22 @@ bound_keeps P turn bind Exists (d ∷ ds) f h p = subst (λ s. P (CoreExists s (
 bound_keeps P turn bind Forall (d ∷ ds) f h p = subst (λ s. P (CoreNot (CoreExists s (CoreNot (bound_all Forall ds f))))) (sym h.0)
     (turn (CoreExists Int (CoreNot (bound_all Forall ds f))) (bind (CoreNot (bound_all Forall ds f)) (turn (bound_all Forall ds f) (bound_keeps P turn bind Forall ds f h.1 p))))
 
-core_free : (scope : Scope) (f : TreeShape) → IsPlainTree f → HasNoQuantifier (core scope f)
-core_free scope (Truth b) h = tt
-core_free scope (Compare a r b) h = compared_free scope a r b
-core_free scope (Call name ts) h = absurd h
-core_free scope (Not f) h = core_free scope f h
-core_free scope (And f g) h = (core_free scope f h.0, core_free scope g h.1)
-core_free scope (Or f g) h = (core_free scope f h.0, core_free scope g h.1)
-core_free scope (Implies f g) h = (core_free scope f h.0, core_free scope g h.1)
-core_free scope (Equivalent f g) h =
-    let left = core_free scope f h.0 in
-    let right = core_free scope g h.1 in
+core_bound : (scope : Scope) (f : TreeShape) → IsPlainTree f → BindsIntegers (core scope f)
+core_bound scope (Truth b) h = tt
+core_bound scope (Compare a r b) h = compared_bound scope a r b
+core_bound scope (Call name ts) h = absurd h
+core_bound scope (Not f) h = core_bound scope f h
+core_bound scope (And f g) h = (core_bound scope f h.0, core_bound scope g h.1)
+core_bound scope (Or f g) h = (core_bound scope f h.0, core_bound scope g h.1)
+core_bound scope (Implies f g) h = (core_bound scope f h.0, core_bound scope g h.1)
+core_bound scope (Equivalent f g) h =
+    let left = core_bound scope f h.0 in
+    let right = core_bound scope g h.1 in
     ((left, right), (right, left))
-core_free scope (Quantified q ds f) h = absurd h
+core_bound scope (Quantified q ds f) h = bound_keeps BindsIntegers (λ f k. k) (λ f k. (refl, k)) q ds (core (with_declared scope ds) f) h.0 (core_bound (with_declared scope ds) f h.1)
 
-pub given_free : (set : ComprehensionShape) → IsPlainSet set → HasNoQuantifier (core_of set)
-given_free set h = core_free (with_declared [] set.vars) set.formula h.tree
+pub given_bound : (set : ComprehensionShape) → IsPlainSet set → BindsIntegers (core_of set)
+given_bound set h = core_bound (with_declared [] set.vars) set.formula h.tree
 
 sorts_int : (ds : List DeclarationShape) → AllByRecursion IsInt ds → sorts_of (map variable_of ds) ≡ all_int (length ds)
 sorts_int [] h = refl

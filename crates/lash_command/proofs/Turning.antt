@@ -26,7 +26,7 @@ use Rattle.script_parse.specs.declared.errors.ScriptError.TheVariants as reading
 use Rattle.lash_command.specs.declared.showing.Unshown.{Unshown}
 use Rattle.lash_command.specs.declared.showing.Unshown.TheVariants as showing
 use Rattle.lash_command.specs.Answers.{cells_limit, IsGiven, IsGivenStatement, IsAnswer, StatementShown, IsShownAs, IsHeavySet, IsAnswered, Outside, HasCome, Ends, unread_ending, unshown_ending}
-use Rattle.lash_command.proofs.GivenSets.{given_over, given_free, given_sorts, given_integers}
+use Rattle.lash_command.proofs.GivenSets.{given_over, given_bound, given_sorts, given_integers}
 use Rattle.lash_command.proofs.Coming.{come_taken, come_more, come_kept, counted_since}
 
 -- what the reader gives is what is compiled
@@ -37,7 +37,7 @@ given_set base set two plain within =
       integers = given_integers set plain;
       sorts = given_sorts set plain ∙ ap all_int (sym many);
       over = subst (λ n. IsOver n (core_of set)) (sym many) (given_over base set within);
-      free = given_free set plain;
+      bound = given_bound set plain;
       letters = subst (λ n. FitsLetters 2 (core_of set) n) (sym many) (subst (λ b. FitsLetters b (core_of set) (length set.vars)) two within.letters);
     }
 

@@ -13,7 +13,7 @@ use Rattle.formula_core.specs.FewLetters.{FitsLetters}
 use Rattle.formula_core.specs.Variables.{sorts_of}
 use Rattle.formula_core.specs.Shape.{formula_of}
 use Rattle.lash_io.specs.Sinks.{Holds, HoldsPart}
-use Rattle.set_compile.specs.Conditions.{IsOver, HasNoQuantifier}
+use Rattle.set_compile.specs.Conditions.{IsOver, BindsIntegers}
 use Rattle.set_compile.specs.Steps.{IsCompiled, IsRefused}
 use Rattle.script_tokens.specs.Lexing.{tokens_of}
 use Rattle.script_statements.specs.Statements.{ComprehensionShape}
@@ -41,12 +41,13 @@ use Rattle.lash_command.specs.declared.ending.Ending.TheVariants.{Finished, Usag
 abbrev pub cells_limit : ℕ
 cells_limit = 4194304
 
--- what a set of a script has: its variables are integers, its terms are over them and inside the limits, and its letters are few
+-- what a set of a script has: its variables are integers, declared and bound, its terms are over them and inside the limits, and its
+-- letters are few
 pub record IsGiven (vars : List (List ℕ × Sort)) (f : Formula) : Type 0 where
   pub integers : All (λ v. v.1 ≡ Int) vars
   pub sorts : sorts_of vars ≡ all_int (length vars)
   pub over : IsOver (length vars) f
-  pub free : HasNoQuantifier f
+  pub bound : BindsIntegers f
   pub letters : FitsLetters 2 f (length vars)
 
 -- the automaton that is shown: the canonical one in base 2, over all variables, that stands for the set; each step that builds it is within
