@@ -1,19 +1,12 @@
 -- The statements that are given are those of the cut, in order.
 use Rattle.std.proofs.Common.{◌≡◌, ℕ, zero, suc, List, [], ◌∷◌, ◌++◌, length, take, drop, false, refl, sym, ap, ◌∙◌, subst, append_assoc, Some}
+use Rattle.std.proofs.Math.Seq.{take-append_seam, drop-append_seam}
 use Rattle.parser_laws.proofs.Parts.{same_some}
 use Rattle.script_pieces.specs.Cuts.{Cut, cut, statement_length}
 use Rattle.script_pieces.specs.Taking.{Progress}
 use Rattle.script_pieces.proofs.Cutting.{stable, cut_first}
 use Rattle.script_parse.specs.Answers.{IsNext}
 use Rattle.script_parse.specs.declared.statement.Statement.{Statement}
-
-front_taken : (xs ys : List ℕ) → take (length xs) (xs ++ ys) ≡ xs
-front_taken [] ys = refl
-front_taken (x ∷ xs) ys = ap (λ zs. x ∷ zs) (front_taken xs ys)
-
-front_dropped : (xs ys : List ℕ) → drop (length xs) (xs ++ ys) ≡ ys
-front_dropped [] ys = refl
-front_dropped (x ∷ xs) ys = front_dropped xs ys
 
 -- the cut of the bytes ahead is the given statement, in front of the cut of those that are ahead then
 pub given_in_order : (base : ℕ) (before after : Progress) (left_before left_after : List ℕ) (s : Statement) (h : IsNext base before after (Some left_before) (Some left_after) s) → cut (before.held ++ left_before) ≡ record { statements = h.text ∷ (cut (after.held ++ left_after)).statements; rest = (cut (after.held ++ left_after)).rest }
@@ -22,5 +15,5 @@ given_in_order base before after lb la s h =
     let is : before.held ++ lb ≡ h.text ++ rest = ap (λ xs. before.held ++ xs) (same_some lb (h.taken.taken ++ la) h.taken.left) ∙ sym (append_assoc before.held h.taken.taken la) ∙ ap (λ xs. xs ++ la) (sym h.taken.held) ∙ append_assoc h.text after.held la in
     ap cut is
     ∙ cut_first (h.text ++ rest) (length h.text) (stable false h.text rest (length h.text) h.whole)
-    ∙ ap (λ xs. record { statements = xs ∷ (cut (drop (length h.text) (h.text ++ rest))).statements; rest = (cut (drop (length h.text) (h.text ++ rest))).rest }) (front_taken h.text rest)
-    ∙ ap (λ xs. record { statements = h.text ∷ (cut xs).statements; rest = (cut xs).rest }) (front_dropped h.text rest)
+    ∙ ap (λ xs. record { statements = xs ∷ (cut (drop (length h.text) (h.text ++ rest))).statements; rest = (cut (drop (length h.text) (h.text ++ rest))).rest }) (take-append_seam h.text rest)
+    ∙ ap (λ xs. record { statements = h.text ∷ (cut xs).statements; rest = (cut xs).rest }) (drop-append_seam h.text rest)

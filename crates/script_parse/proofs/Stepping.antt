@@ -2,7 +2,8 @@
 use Rattle.std.proofs.Common.{◌≡◌, ℕ, zero, suc, ◌+◌, ◌≤◌, List, [], ◌∷◌, ◌++◌, length, take, drop, false, arith, refl, sym, ap, ap₂, ◌∙◌, subst, inl, inr, append-nil, Option, None, Some}
 use Rattle.std.specs.Prelude.{Result, Ok, Err, IfSome, unwrap_or}
 use Rattle.std.specs.Io.KnownBytes.{prepend_known, IsAtEnd}
-use Rattle.std.proofs.lemmas.List.{take-append-drop, take-append-le}
+use Rattle.std.proofs.lemmas.List.{take-append-drop, take-append-le, length-take-le}
+use Rattle.std.proofs.Math.Seq.{take-length}
 use Rattle.std.proofs.lemmas.Bool.{true≢false}
 use Rattle.script_tokens.specs.Tokens.{PlacedToken}
 use Rattle.script_tokens.specs.Lexing.{tokens_of}
@@ -40,12 +41,8 @@ statement_piece p left size h = record { held = ap (λ n. take n p.held) (sized 
 rest_piece : (p : Progress) (left : Option (List ℕ)) → IsRest p left → IsPiece p left p.held
 rest_piece p left h = record { held = all p.held h.unended.unended; ahead = by left h.ended }
   where
-    whole : (xs : List ℕ) → xs ≡ take (length xs) xs
-    whole [] = refl
-    whole (x ∷ xs) = ap (λ ys. x ∷ ys) (whole xs)
-
     all : (bytes : List ℕ) → statement_length false bytes ≡ None → bytes ≡ take (piece_length bytes) bytes
-    all bytes e = whole bytes ∙ ap (λ o. take (unwrap_or o (length bytes)) bytes) (sym e)
+    all bytes e = sym (take-length bytes) ∙ ap (λ o. take (unwrap_or o (length bytes)) bytes) (sym e)
 
     by : (left : Option (List ℕ)) → IsAtEnd left → IfSome (prepend_known p.held left) (λ bytes. p.held ≡ take (piece_length bytes) bytes)
     by None e = tt
@@ -77,11 +74,6 @@ says_rest base before fetched lb la fb fa (Ok None) h rest is = record { taken =
 says_rest base before fetched lb la fb fa (Ok (Some s)) h rest is = absurd is
 says_rest base before fetched lb la fb fa (Err e) h rest is = record { taken = h.taken; needed = h.needed; cause = refused_first base fetched la fb fa fetched.held e (rest_piece fetched la rest) is }
 
-length_taken : (n : ℕ) (xs : List ℕ) → n ≤ length xs → length (take n xs) ≡ n
-length_taken zero xs h = refl
-length_taken (suc n) [] h = absurd (omega (arith, h))
-length_taken (suc n) (x ∷ xs) h = ap suc (length_taken n xs (omega (arith, h)))
-
 -- what was needed is told by the bytes held
 needed_bytes : (before fetched : Progress) (given : ℕ) (held : List ℕ) → fetched.held ≡ held → IsNeeded before fetched → IsNeeded before (record { given = given; held = held })
 needed_bytes before fetched given held e (inl same) = inl (sym e ∙ same)
@@ -92,7 +84,7 @@ pub says_statement : (base : ℕ) (before fetched : Progress) (after : State) (l
 says_statement base before fetched after lb la fb fa size (Ok None) h s is = absurd is
 says_statement base before fetched after lb la fb fa size (Ok (Some t)) h s (gives, shown) =
     let text = take size fetched.held in
-    let long : length text ≡ size = length_taken size fetched.held s.inside in
+    let long : length text ≡ size = length-take-le size fetched.held s.inside in
     let joined : text ++ drop size fetched.held ≡ fetched.held = take-append-drop size fetched.held in
     subst (λ (x : State). IsNext base before x.progress lb la t) (sym gives) (record {
       text = text;

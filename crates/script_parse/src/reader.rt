@@ -1,6 +1,7 @@
 //! The reader of statements over a source.
 
-ghost use Rattle.std.specs.Prelude.{◌≡◌, ◌≤◌, [], true, false, IfOk};
+ghost use Rattle.std.specs.Prelude.{◌≡◌, ◌≤◌, ◌+◌, [], true, false, length, IfOk};
+ghost use Rattle.script_pieces.specs.Limits.{script_bytes_limit};
 ghost use Rattle.script_pieces.specs.Taking.{IsOpen};
 ghost use Rattle.script_parse.specs.Answers.{EndsRest, GivesStatement, Says, error_of, goes_on};
 ghost use Rattle.script_pieces.specs.Answers.{IsStatement};
@@ -69,6 +70,8 @@ impl Statements {
         ensures live { self.new.live ≡ goes_on result }
         ensures says { Says self.old.base self.old.progress self.new.progress (S.left source.old) (S.left source.new) (S.faults source.old) (S.faults source.new) result }
         ensures count { S.faults source.old ≤ S.faults source.new }
+        ensures idle { (IsOpen self.old.progress → ⊥) → source.new ≡ source.old }
+        ensures most { self.new.progress.given + length self.new.progress.held ≤ script_bytes_limit + 1 }
     {
         self.live = false;
         match self.pieces.fetch(source) {

@@ -13,5 +13,5 @@ mod tests;
 mod tree;
 mod values;
 
-pub use reading::{NESTING_LIMIT, Refusal, read_statement};
+pub use reading::{NESTING_LIMIT, Refusal, one_outcome, read_statement};
 pub use tree::{Assignment, Bound, Comprehension, Constraint, Loop, Rational, Statement};
