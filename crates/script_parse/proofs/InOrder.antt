@@ -1,8 +1,8 @@
 -- The statements that are given are those of the cut, in order.
-use Rattle.std.proofs.Common.{◌≡◌, ℕ, zero, suc, List, [], ◌∷◌, ◌++◌, length, take, drop, false, refl, sym, ap, ◌∙◌, subst, append_assoc, Some}
+use Rattle.std.proofs.Common.{◌≡◌, ℕ, List, ◌∷◌, ◌++◌, length, drop, false, sym, ap, ◌∙◌, append_assoc, Some}
 use Rattle.std.proofs.Math.Seq.{take-append_seam, drop-append_seam}
 use Rattle.parser_laws.proofs.Parts.{same_some}
-use Rattle.script_pieces.specs.Cuts.{Cut, cut, statement_length}
+use Rattle.script_pieces.specs.Cuts.{cut}
 use Rattle.script_pieces.specs.Taking.{Progress}
 use Rattle.script_pieces.proofs.Cutting.{stable, cut_first}
 use Rattle.script_parse.specs.Answers.{IsNext}

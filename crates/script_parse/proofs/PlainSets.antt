@@ -1,19 +1,19 @@
--- Tokens with nothing unbuilt spell sets of integers without quantifiers and calls.
-use Rattle.std.proofs.Common.{◌≡◌, ℕ, List, [], ◌∷◌, ◌++◌, Bool, true, false, ◌||◌, ◌&&◌, refl, sym, ap, subst}
+-- Tokens with nothing unbuilt spell sets of integers, declared and bound, without calls: part by part of the grammar.
+use Rattle.std.proofs.Common.{◌≡◌, List, [], ◌∷◌, ◌++◌, Bool, true, false, ◌||◌, ◌&&◌, refl, subst}
 use Rattle.std.specs.List.{AllByRecursion}
-use Rattle.std.proofs.lemmas.Bool.{true≢false, false≢true}
+use Rattle.std.proofs.lemmas.Bool.{true≢false}
 use Rattle.parser_laws.specs.Parsing.{Either, first, other, Lang, both, perhaps, items}
 use Rattle.lash_model.specs.Formulas.{Sort, Int, Real}
 use Rattle.script_tokens.specs.declared.kind.Kind.TheVariants as kind
 use Rattle.script_tokens.specs.Tokens.{PlacedToken}
-use Rattle.script_grammar.specs.Views.{is, is_name, sign, at, spell_sort, spell_quantifier, Quantifier, Exists, Forall}
+use Rattle.script_grammar.specs.Views.{is, is_name, sign, at, spell_sort}
 use Rattle.script_grammar.specs.Terms.{called, compared, atom, declaration, declarations}
 use Rattle.script_grammar.specs.Formulas.{Form, Quant, Plain, Iff, OneImp, TwoImps, Imp, OneOr, TwoOrs, Or, Ands, MoreAnds, NoAnd, OrAnd, And, Units, MoreUnits, NoUnit, AndUnit, Unary, Not, Paren, Simple, form_toks, iff_toks, imp_toks, or_toks, more_ands_toks, and_toks, more_units_toks, unary_toks}
 use Rattle.script_grammar.specs.Statements.{header, whole_statement, Statement}
 use Rattle.script_syntax.specs.Reading.{folded}
 use Rattle.script_syntax.specs.Trees.{DeclarationShape, TreeShape, And as AndShape, Or as OrShape, add_declaration, declaration_shape, declarations_shape, perhaps_declared, header_shape, named_shape, atom_shape, form_shape, iff_shape, imp_shape, or_shape, more_ands_shape, and_shape, more_units_shape, unary_shape}
 use Rattle.script_statements.specs.Statements.{ComprehensionShape, Described, Show, statement_shape, described_shape}
-use Rattle.script_parse.specs.Unbuilt.{has_unbuilt, is_unbuilt_token, is_name_token, begins_call, opens}
+use Rattle.script_parse.specs.Unbuilt.{has_unbuilt, is_unbuilt_token, is_name_token, begins_call}
 use Rattle.script_parse.specs.Plain.{IsPlainTree, IsInt, IsPlainSet}
 
 abbrev more_declarations : Lang PlacedToken
@@ -90,14 +90,9 @@ atom_plain (other (first x)) h = by x.right h
     by (other y) h = tt
 atom_plain (other (other x)) h = tt
 
--- a quantifier is not built
-quantified : (q : Quantifier) (place : ℕ) (ts : List PlacedToken) → IsBuilt (at (spell_quantifier q) place ∷ ts) → ⊥
-quantified Exists place ts h = true≢false h.is
-quantified Forall place ts h = true≢false h.is
-
 mutual
   form_plain : (f : Form) → IsBuilt (form_toks f) → IsPlainTree (form_shape f)
-  form_plain (Quant w d p f) h = absurd (quantified w.left w.right (declarations.toks d ++ (at kind.Colon p ∷ form_toks f)) h)
+  form_plain (Quant w d p f) h = (declarations_int d (front (declarations.toks d) (at kind.Colon p ∷ form_toks f) (behind_one _ _ h)), form_plain f (behind_one _ _ (behind (declarations.toks d) (at kind.Colon p ∷ form_toks f) (behind_one _ _ h))))
   form_plain (Plain i) h = iff_plain i h
 
   iff_plain : (i : Iff) → IsBuilt (iff_toks i) → IsPlainTree (iff_shape i)

@@ -1,5 +1,5 @@
 -- From what was fetched, and what a piece answers, to what the reader says.
-use Rattle.std.proofs.Common.{◌≡◌, ℕ, zero, suc, ◌+◌, ◌≤◌, List, [], ◌∷◌, ◌++◌, length, take, drop, false, arith, refl, sym, ap, ap₂, ◌∙◌, subst, inl, inr, append-nil, Option, None, Some}
+use Rattle.std.proofs.Common.{◌≡◌, ℕ, ◌+◌, List, ◌++◌, length, take, drop, false, refl, sym, ap, ap₂, ◌∙◌, subst, inl, inr, append-nil, Option, None, Some}
 use Rattle.std.specs.Prelude.{Result, Ok, Err, IfSome, unwrap_or}
 use Rattle.std.specs.Io.KnownBytes.{prepend_known, IsAtEnd}
 use Rattle.std.proofs.lemmas.List.{take-append-drop, take-append-le, length-take-le}

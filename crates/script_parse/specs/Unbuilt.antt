@@ -1,4 +1,4 @@
--- What is not built yet: the statements besides `show`, quantifiers, real variables and calls.
+-- What is not built yet: the statements besides `show`, real variables, declared or bound, and calls (own).
 use Rattle.std.specs.Prelude.{◌||◌, ◌&&◌, Bool, true, false, List, [], ◌∷◌}
 use Rattle.script_tokens.specs.declared.kind.Kind.{Kind}
 use Rattle.script_tokens.specs.declared.kind.Kind.TheVariants as kind
@@ -10,7 +10,7 @@ is_one_of [] k = false
 is_one_of (j ∷ js) k = same_kind k j || is_one_of js k
 
 abbrev pub unbuilt_kinds : List Kind
-unbuilt_kinds = kind.Set ∷ kind.Print ∷ kind.Solve ∷ kind.Test ∷ kind.Equal ∷ kind.Subset ∷ kind.Check ∷ kind.Loop ∷ kind.Exists ∷ kind.Forall ∷ kind.Real ∷ []
+unbuilt_kinds = kind.Set ∷ kind.Print ∷ kind.Solve ∷ kind.Test ∷ kind.Equal ∷ kind.Subset ∷ kind.Check ∷ kind.Loop ∷ kind.Real ∷ []
 
 -- a keyword of what is not built
 abbrev pub is_unbuilt_token : Token → Bool

@@ -24,7 +24,8 @@ pub fn statements_come_in_order()
     ensures { (base : ℕ) (before after : Progress) (left_before left_after : List ℕ) (s : Statement) (h : IsNext base before after (Some left_before) (Some left_after) s) → cut (before.held ++ left_before) ≡ record { statements = h.text ∷ (cut (after.held ++ left_after)).statements; rest = (cut (after.held ++ left_after)).rest } }
 {}
 
-/// A set that is given is one of integers, without quantifiers and calls: whatever has others is answered as not built.
+/// A set that is given is one of integers, its declared variables and the bound ones of its formula, without calls: whatever has others is
+/// answered as not built.
 pub fn built_sets_are_plain()
     ensures { (ts : List PlacedToken) (set : ComprehensionShape) → Spells ts set → IsPlainSet set }
 {}

@@ -58,8 +58,9 @@ impl Statements {
     ///
     /// # Errors
     /// `Read` where a read met a fault; else, of the first piece of the bytes ahead, `Limit` where it has too many bytes, `Unbuilt` where it
-    /// has a token of what is not built, `Syntax` and `Limit` of the nesting at the first wrong token or group too many, `Name` at the first
-    /// wrong name, and `Limit` for the first limit that its formula passes. `Memory` may come besides.
+    /// has a token of what is not built (the keyword of another statement than `show`, `real`, or a name directly before a parenthesis),
+    /// `Syntax` and `Limit` of the nesting at the first wrong token or group too many, `Name` at the first wrong name, and `Limit` for the
+    /// first limit that its formula passes. `Memory` may come besides.
     pub fn next<S: Source>(
         &mut self,
         alloc: Global,

@@ -4,7 +4,7 @@ ghost use Rattle.std.specs.Prelude.{◌≤◌};
 
 use super::*;
 use digit_codes::Base;
-use formula_core::{Formula, Linear};
+use formula_core::{Formula, Linear, Sort};
 use lash_io::MemSource;
 use script_meaning::{NameFault, Which};
 use std::alloc::{AllocError, Global};
@@ -119,6 +119,88 @@ fn statements_are_given_in_order(rt: HostRuntime) -> Result<(), Fail> {
     Ok(())
 }
 
+/// What a script shows first.
+fn shown(alloc: Global, bytes: &[u8]) -> Result<Formula, Fail> {
+    let mut source = source(alloc, bytes, 3, &[])?;
+    let mut statements = reader(alloc)?;
+    match next(alloc, &mut statements, &mut source)? {
+        Ok(Some(Statement::Show { formula, .. })) => Ok(formula),
+        _ => Err(Fail::from("no set is shown")),
+    }
+}
+
+/// Whether a formula says that the sum of the terms is at most 0.
+fn is_atom(formula: &Formula, terms: &[(u32, i128)]) -> bool {
+    match formula {
+        Formula::Le(term) => term.constant() == 0 && term.terms() == terms,
+        _ => false,
+    }
+}
+
+/// Whether a formula says so of some integer at the last place.
+fn is_some(formula: &Formula, terms: &[(u32, i128)]) -> bool {
+    match formula {
+        Formula::Exists(Sort::Int, inner) => is_atom(inner, terms),
+        _ => false,
+    }
+}
+
+/// What a negation denies.
+fn denied(formula: &Formula) -> Option<&Formula> {
+    match formula {
+        Formula::Not(inner) => Some(inner.as_ref()),
+        _ => None,
+    }
+}
+
+/// What holds of all integers at the last place, where that is said as `not exists not`.
+fn for_all(formula: &Formula) -> Option<&Formula> {
+    match denied(formula)? {
+        Formula::Exists(Sort::Int, inner) => denied(inner),
+        _ => None,
+    }
+}
+
+/// Whether a formula says so of all integers at the last place.
+fn is_all(formula: &Formula, terms: &[(u32, i128)]) -> bool {
+    match for_all(formula) {
+        Some(body) => is_atom(body, terms),
+        None => false,
+    }
+}
+
+/// Whether a formula says of all integers at the last place but one that it is so for some integer at the last.
+fn is_all_some(formula: &Formula, terms: &[(u32, i128)]) -> bool {
+    match for_all(formula) {
+        Some(body) => is_some(body, terms),
+        None => false,
+    }
+}
+
+// x is at place 0 and y at place 1.
+#[test]
+fn some_integer_is_bound(rt: HostRuntime) -> Result<(), Fail> {
+    let formula = shown(rt.alloc(), b"show (x int): exists y int: x <= y;")?;
+    assert!(rt; is_some(&formula, &[(0, 1), (1, -1)]));
+    Ok(())
+}
+
+#[test]
+fn all_integers_are_bound(rt: HostRuntime) -> Result<(), Fail> {
+    let formula = shown(rt.alloc(), b"show (x int): forall y int: y <= x;")?;
+    assert!(rt; is_all(&formula, &[(0, -1), (1, 1)]));
+    Ok(())
+}
+
+// z is at place 2.
+#[test]
+fn quantifiers_nest(rt: HostRuntime) -> Result<(), Fail> {
+    let script = b"show (x int): forall y int: exists z int: x + y <= z;";
+    let formula = shown(rt.alloc(), script)?;
+    assert!(rt; is_all_some(&formula, &[(0, 1), (1, 1), (2, -1)]));
+    Ok(())
+}
+
 #[test]
 fn scripts_without_tokens_end(rt: HostRuntime) -> Result<(), Fail> {
     assert!(rt; is_blank(rt.alloc(), b"")?);
@@ -140,6 +222,10 @@ fn syntax_is_wrong_at_a_place(rt: HostRuntime) -> Result<(), Fail> {
         refusal(rt.alloc(), b"show (x int): x", &[])?,
         Some(ScriptError::Syntax { place: 15 })
     );
+    assert_eq!(rt;
+        refusal(rt.alloc(), b"show (x int): exists y int x <= y;", &[])?,
+        Some(ScriptError::Syntax { place: 27 })
+    );
     Ok(())
 }
 
@@ -158,6 +244,58 @@ fn names_are_wrong_at_a_place(rt: HostRuntime) -> Result<(), Fail> {
             fault: NameFault::Repeated,
             place: 13
         })
+    );
+    Ok(())
+}
+
+#[test]
+fn bound_names_are_wrong_at_a_place(rt: HostRuntime) -> Result<(), Fail> {
+    assert_eq!(rt;
+        refusal(rt.alloc(), b"show (x int): exists x int: x <= 1;", &[])?,
+        Some(ScriptError::Name {
+            fault: NameFault::Repeated,
+            place: 21
+        })
+    );
+    assert_eq!(rt;
+        refusal(
+            rt.alloc(),
+            b"show (x int): forall y int: exists y int: x <= y;",
+            &[]
+        )?,
+        Some(ScriptError::Name {
+            fault: NameFault::Repeated,
+            place: 35
+        })
+    );
+    assert_eq!(rt;
+        refusal(
+            rt.alloc(),
+            b"show (x int): (exists y int: x = y) and y <= 1;",
+            &[]
+        )?,
+        Some(ScriptError::Name {
+            fault: NameFault::Unknown,
+            place: 40
+        })
+    );
+    Ok(())
+}
+
+#[test]
+fn bound_reals_are_not_built(rt: HostRuntime) -> Result<(), Fail> {
+    let unbuilt = Some(ScriptError::Unbuilt);
+    assert_eq!(rt;
+        refusal(rt.alloc(), b"show (x int): exists y real: x <= y;", &[])?,
+        unbuilt
+    );
+    assert_eq!(rt;
+        refusal(
+            rt.alloc(),
+            b"show (x int): forall y int, z real: true;",
+            &[]
+        )?,
+        unbuilt
     );
     Ok(())
 }
@@ -192,6 +330,12 @@ fn limits_are_named(rt: HostRuntime) -> Result<(), Fail> {
             which: Which::Literal
         })
     );
+    assert_eq!(rt;
+        refusal(rt.alloc(), twelve_bound(), &[])?,
+        Some(ScriptError::Limit {
+            which: Which::Letters
+        })
+    );
     Ok(())
 }
 
@@ -200,11 +344,16 @@ fn thirteen() -> &'static [u8] {
     b"show (a int, b int, c int, d int, e int, f int, g int, h int, i int, j int, k int, l int, m int): true;"
 }
 
-/// A statement with so many words `not`.
-fn negated(alloc: Global, count: usize) -> Result<Vec<u8>, AllocError> {
+/// Twelve bound variables beside a declared one, all free in one part.
+fn twelve_bound() -> &'static [u8] {
+    b"show (x int): exists a int, b int, c int, d int, e int, f int, g int, h int, i int, j int, k int, l int: x + a + b + c + d + e + f + g + h + i + j + k + l <= 1;"
+}
+
+/// A statement whose formula has so often the same in front.
+fn nested(alloc: Global, front: &[u8], count: usize) -> Result<Vec<u8>, AllocError> {
     let mut script = Vec::from_slice(alloc, b"show (x int): ")?;
     for _ in 0..count {
-        script.extend_from_slice(b"not ")?;
+        script.extend_from_slice(front)?;
     }
     script.extend_from_slice(b"x <= 1;")?;
     Ok(script)
@@ -212,11 +361,27 @@ fn negated(alloc: Global, count: usize) -> Result<Vec<u8>, AllocError> {
 
 #[test]
 fn nesting_is_limited(rt: HostRuntime) -> Result<(), Fail> {
-    let script = negated(rt.alloc(), 257)?;
+    let nesting = Some(ScriptError::Limit {
+        which: Which::Nesting,
+    });
+    let script = nested(rt.alloc(), b"not ", 257)?;
+    assert_eq!(rt; refusal(rt.alloc(), script.as_slice(), &[])?, nesting);
+    let script = nested(rt.alloc(), b"exists y int: ", 257)?;
+    assert_eq!(rt; refusal(rt.alloc(), script.as_slice(), &[])?, nesting);
+    let script = nested(rt.alloc(), b"forall y int: ", 257)?;
+    assert_eq!(rt; refusal(rt.alloc(), script.as_slice(), &[])?, nesting);
+    Ok(())
+}
+
+// The names are judged where the nesting is within its limit.
+#[test]
+fn nesting_comes_before_names(rt: HostRuntime) -> Result<(), Fail> {
+    let script = nested(rt.alloc(), b"exists y int: ", 256)?;
     assert_eq!(rt;
         refusal(rt.alloc(), script.as_slice(), &[])?,
-        Some(ScriptError::Limit {
-            which: Which::Nesting
+        Some(ScriptError::Name {
+            fault: NameFault::Repeated,
+            place: 35
         })
     );
     Ok(())

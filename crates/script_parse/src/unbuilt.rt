@@ -1,4 +1,4 @@
-//! The tokens of what is not built yet: the statements besides `show`, quantifiers, real variables and calls.
+//! The tokens of what is not built yet: the statements besides `show`, real variables, declared or bound, and calls.
 
 ghost use Rattle.std.specs.Prelude.{◌≡◌, ◌<◌, length, drop, map};
 ghost use Rattle.script_tokens.specs.Shape.{placed_of, token_of};
@@ -22,8 +22,6 @@ fn is_unbuilt_kind(kind: Kind) -> bool
             | Kind::Subset
             | Kind::Check
             | Kind::Loop
-            | Kind::Exists
-            | Kind::Forall
             | Kind::Real
     )
 }
