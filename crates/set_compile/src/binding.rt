@@ -1,4 +1,4 @@
-//! The step of a bound variable: its body's table forgets the variable's track, and is made canonical.
+//! The step of a bound variable (Büchi): its body's table forgets the variable's track, and is made canonical.
 
 ghost use Rattle.std.specs.Prelude.{◌≡◌, ◌+◌, ◌-◌, ◌<◌, ◌≤◌, ℕ, ℤ, List, length, IfOk, IfErr, OnOk};
 ghost use Rattle.lash_model.specs.Formulas.{Int, Formula as Set, Exists};
