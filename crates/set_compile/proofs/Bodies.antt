@@ -1,5 +1,5 @@
 -- A body's free places are those of the whole, and behind them the bound variable's place, where the body uses it.
-use Rattle.std.proofs.Common.{◌≡◌, ℕ, zero, suc, ◌+◌, ◌-◌, ◌<◌, ◌≤◌, List, [], ◌∷◌, ◌++◌, length, map, take, drop, get_or, nat_eq, eqb, arith, refl, sym, ap, ap₂, ◌∙◌, subst, Bool, true, false, cond, inl, inr, IsTrue, ◌↔◌}
+use Rattle.std.proofs.Common.{◌≡◌, ℕ, zero, suc, ◌+◌, ◌<◌, List, [], ◌∷◌, ◌++◌, length, get_or, nat_eq, eqb, arith, refl, sym, ap, ap₂, ◌∙◌, subst, Bool, true, false, cond, inl, inr, IsTrue, ◌↔◌}
 use Rattle.std.proofs.Math.IntN.{ℤ, pos, ◌*ℤ◌}
 use Rattle.std.specs.Prelude.{All}
 use Rattle.std.specs.List.{filter, range_with_len}

@@ -1,5 +1,5 @@
 -- A formula's table is made in one way, and where a step is too heavy it is not made.
-use Rattle.std.proofs.Common.{◌≡◌, ℕ, ◌+◌, ◌-◌, ◌^◌, ◌<◌, List, length, arith, refl, sym, ap, ◌∙◌, subst, Bool, true, false, IsTrue, ◌↔◌}
+use Rattle.std.proofs.Common.{◌≡◌, ℕ, ◌+◌, ◌^◌, ◌<◌, List, length, arith, refl, sym, ap, ◌∙◌, subst, Bool, true, false, IsTrue, ◌↔◌}
 use mathlib.Core.Logic.{◌⊎◌, inl, inr}
 use Rattle.std.specs.Prelude.{All}
 use Rattle.std.specs.List.{AllByRecursion}
@@ -21,7 +21,7 @@ use Rattle.product_ops.specs.Pairs.{pairs, IsPairTable}
 use Rattle.product_ops.specs.Tracks.{TrackLists}
 use Rattle.product_ops.specs.declared.operation.Op.{Op}
 use Rattle.product_ops.specs.declared.operation.Op.TheVariants.{And as Both, Or as Either}
-use Rattle.subset_build.specs.Projection.{kept, IsSubsetTable, IsHeavyProjection, AcceptsSome}
+use Rattle.subset_build.specs.Projection.{kept, IsSubsetTable, IsHeavyProjection}
 use Rattle.set_compile.specs.Positions.{shared}
 use Rattle.set_compile.specs.Steps.{own, IsShaped, IsOfAtom, IsOfPairs, IsOfSubsets, IsMade, HasHeavyPairs, IsFirstHeavy, always, all_tracks, IsWidened, IsCompiled, IsRefused}
 use Rattle.set_compile.proofs.Bodies.{used_count, unused_count}

@@ -2,7 +2,6 @@
 use Rattle.std.proofs.Common.{◌≡◌, ℕ, ◌^◌, ◌<◌, sym, ap, ◌∙◌, subst}
 use Rattle.std.specs.Prelude.{All, IsTrue, ◌↔◌}
 use Rattle.std.proofs.lemmas.List.Elements.{recursion_from_All}
-use Rattle.lash_model.specs.Acceptance.{accepts_word}
 use Rattle.lash_model.specs.Tables.{Table, letters}
 use Rattle.canonical_laws.specs.Canonical.{AcceptSameWords}
 use Rattle.product_ops.specs.Negation.{AcceptsOthers}

@@ -1,4 +1,4 @@
-//! The step of a bound variable: its body's table forgets the variable's track, and is made canonical.
+//! The step of a bound variable (Büchi): its body's table forgets the variable's track, and is made canonical.
 
 ghost use Rattle.std.specs.Prelude.{◌≡◌, ◌+◌, ◌-◌, ◌<◌, ◌≤◌, ℕ, ℤ, List, length, IfOk, IfErr, OnOk};
 ghost use Rattle.lash_model.specs.Formulas.{Int, Formula as Set, Exists};
@@ -20,12 +20,7 @@ use weak_min::{Canon, canonical};
 
 /// The canonical table that forgets a track of the given one. The limit of cells is at most 16,777,216. `Heavy` comes exactly where the
 /// subsets pass the limit.
-fn projected(
-    alloc: Global,
-    body: &Canon,
-    track: u32,
-    limit: u64,
-) -> Result<Canon, CompileError>
+fn projected(alloc: Global, body: &Canon, track: u32, limit: u64) -> Result<Canon, CompileError>
     requires track { track < body.now.table.tracks }
     requires limit { limit ≤ 16777216 }
     ensures shape { IfOk result (λ c. IsShaped body.now.table.base (body.now.table.tracks - 1) c.table) }

@@ -94,7 +94,8 @@ fn widened(
 ///
 /// At this stage all variables, declared and bound, are integers, as conditions. The formula is over the declared variables, its terms are
 /// inside the limits of coefficients and constants, its letters are few, and the limit of cells is at most 16,777,216. `Heavy` comes
-/// exactly where a step passes the limit, at the first that does. A bound variable that its body does not use costs no step.
+/// exactly where a step passes the limit, at the first that does. A bound variable that its body does not use costs no step. `Memory` comes
+/// for want of memory, and also where more than 2^32 - 1 variables are bound in one another.
 pub fn compile(
     alloc: Global,
     base: Base,
@@ -104,7 +105,7 @@ pub fn compile(
 ) -> Result<Canon, CompileError>
     requires sorts { map sort_of sorts.now ≡ all_int (length sorts.now) }
     requires over { IsOver (length sorts.now) (formula_of formula.now) }
-    requires free { BindsIntegers (formula_of formula.now) }
+    requires bound { BindsIntegers (formula_of formula.now) }
     requires letters { FitsLetters base (formula_of formula.now) (length sorts.now) }
     requires limit { limit ≤ 16777216 }
     ensures stands { IfOk result (λ c. StandsFor c.table (map sort_of sorts.now) (formula_of formula.now)) }

@@ -1,4 +1,5 @@
-//! The table of a formula over its free variables: one step for each node, its parts first and the left one before the right one.
+//! The table of a formula over its free variables: one step for each node, its parts first and the left one before the right one. A bound
+//! variable that its body does not use costs no step.
 
 ghost use Rattle.std.specs.Prelude.{◌≡◌, ◌≤◌, ◌^◌, ℕ, ℤ, List, IsTrue, length, IfOk, IfErr, OnOk};
 ghost use Rattle.graph_laws.specs.Exploring.{IsHeavy};
@@ -72,7 +73,7 @@ fn conjunction(
 ) -> Result<Canon, CompileError>
     requires whole { formula_of whole.now ≡ And (formula_of left.now) (formula_of right.now) }
     requires over { IsOver places (And (formula_of left.now) (formula_of right.now)) }
-    requires free { BindsIntegers (And (formula_of left.now) (formula_of right.now)) }
+    requires bound { BindsIntegers (And (formula_of left.now) (formula_of right.now)) }
     requires letters { IsNarrow base places (And (formula_of left.now) (formula_of right.now)) }
     requires limit { limit ≤ 16777216 }
     ensures linear { OnOk result (HasLinearAtoms (And (formula_of left.now) (formula_of right.now))) }
@@ -114,7 +115,7 @@ fn disjunction(
 ) -> Result<Canon, CompileError>
     requires whole { formula_of whole.now ≡ Or (formula_of left.now) (formula_of right.now) }
     requires over { IsOver places (Or (formula_of left.now) (formula_of right.now)) }
-    requires free { BindsIntegers (Or (formula_of left.now) (formula_of right.now)) }
+    requires bound { BindsIntegers (Or (formula_of left.now) (formula_of right.now)) }
     requires letters { IsNarrow base places (Or (formula_of left.now) (formula_of right.now)) }
     requires limit { limit ≤ 16777216 }
     ensures linear { OnOk result (HasLinearAtoms (Or (formula_of left.now) (formula_of right.now))) }
@@ -145,6 +146,7 @@ fn disjunction(
 
 /// The canonical table of a formula over its free variables. The formula is over so many variables, binds integers alone, and its letters
 /// are few; the limit of cells is at most 16,777,216. `Heavy` comes exactly where some step passes the limit, at the first that does.
+/// `Memory` is also the answer where more than 2^32 - 1 variables are bound in one another.
 #[cycle(part)]
 pub fn part(
     alloc: Global,
@@ -154,7 +156,7 @@ pub fn part(
     limit: u64,
 ) -> Result<Canon, CompileError>
     requires over { IsOver places (formula_of formula.now) }
-    requires free { BindsIntegers (formula_of formula.now) }
+    requires bound { BindsIntegers (formula_of formula.now) }
     requires letters { IsNarrow base places (formula_of formula.now) }
     requires limit { limit ≤ 16777216 }
     ensures linear { OnOk result (HasLinearAtoms (formula_of formula.now)) }
@@ -174,7 +176,7 @@ pub fn part(
             conjunction(alloc, base, formula, left, right, places, limit)
         }
         Formula::Or(left, right) => disjunction(alloc, base, formula, left, right, places, limit),
-        // A formula with so many bound variables is larger than any memory.
+        // No place behind 2^32 - 1 has a number; want of numbers is answered as want of memory.
         Formula::Exists(_, inner) => match places.checked_add(1) {
             Some(within) => match part(alloc, base, inner, within, limit) {
                 Ok(body) => bound(alloc, inner, body, places, limit),

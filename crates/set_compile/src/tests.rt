@@ -1,8 +1,8 @@
 //! Compiled formulas, with their canonical tables.
 
-ghost use Rattle.std.specs.Prelude.{◌≡◌, ◌<◌, ◌≤◌, ◌^◌, ℕ, pos, unsigned_abs, IfOk};
+ghost use Rattle.std.specs.Prelude.{◌≡◌, ◌+◌, ◌<◌, ◌≤◌, ◌^◌, ℕ, [], ◌∷◌, pos, unsigned_abs, IfOk};
 ghost use Rattle.formula_core.specs.Shape.{formula_of};
-ghost use Rattle.set_compile.specs.Conditions.{IsOver, BindsIntegers};
+ghost use Rattle.set_compile.specs.Conditions.{IsTermOver, IsOver, BindsIntegers};
 
 use super::*;
 use crate::atoms::append;
@@ -21,20 +21,87 @@ fn at_most(alloc: Global, coefficient: &i128, constant: &i128) -> Result<Formula
     requires small { unsigned_abs coefficient.now ≤ 2 ^ 24 }
     requires low { unsigned_abs constant.now ≤ 2 ^ 40 }
     ensures over { IfOk result (λ f. (m : ℕ) → 0 < m → IsOver m (formula_of f)) }
-    ensures free { IfOk result (λ f. BindsIntegers (formula_of f)) }
+    ensures bound { IfOk result (λ f. BindsIntegers (formula_of f)) }
+{
+    match term(alloc, 0, coefficient, constant) {
+        Ok(term) => Ok(Formula::Le(term)),
+        Err(Memory) => Err(Memory),
+    }
+}
+
+/// The same of the variable at place 1.
+fn next_at_most(alloc: Global, coefficient: &i128, constant: &i128) -> Result<Formula, Memory>
+    requires some { coefficient.now ≡ pos 0 → ⊥ }
+    requires small { unsigned_abs coefficient.now ≤ 2 ^ 24 }
+    requires low { unsigned_abs constant.now ≤ 2 ^ 40 }
+    ensures over { IfOk result (λ f. (m : ℕ) → 1 < m → IsOver m (formula_of f)) }
+    ensures bound { IfOk result (λ f. BindsIntegers (formula_of f)) }
+{
+    match term(alloc, 1, coefficient, constant) {
+        Ok(term) => Ok(Formula::Le(term)),
+        Err(Memory) => Err(Memory),
+    }
+}
+
+/// The equation that a coefficient times the variable at place 0 is a constant.
+fn equal(alloc: Global, coefficient: &i128, constant: &i128) -> Result<Formula, Memory>
+    requires some { coefficient.now ≡ pos 0 → ⊥ }
+    requires small { unsigned_abs coefficient.now ≤ 2 ^ 24 }
+    requires low { unsigned_abs constant.now ≤ 2 ^ 40 }
+    ensures over { IfOk result (λ f. (m : ℕ) → 0 < m → IsOver m (formula_of f)) }
+    ensures bound { IfOk result (λ f. BindsIntegers (formula_of f)) }
+{
+    match term(alloc, 0, coefficient, constant) {
+        Ok(term) => Ok(Formula::Eq(term)),
+        Err(Memory) => Err(Memory),
+    }
+}
+
+/// The equation that the coefficients times the variables at place 0 and at a higher one are a constant together.
+fn sum_equal(
+    alloc: Global,
+    first: &i128,
+    place: u32,
+    second: &i128,
+    constant: &i128,
+) -> Result<Formula, Memory>
+    requires first { first.now ≡ pos 0 → ⊥ }
+    requires second { second.now ≡ pos 0 → ⊥ }
+    requires higher { 0 < place }
+    requires small { unsigned_abs first.now + unsigned_abs second.now ≤ 2 ^ 24 }
+    requires low { unsigned_abs constant.now ≤ 2 ^ 40 }
+    ensures over { IfOk result (λ f. (m : ℕ) → place < m → IsOver m (formula_of f)) }
+    ensures bound { IfOk result (λ f. BindsIntegers (formula_of f)) }
+{
+    let mut term = match term(alloc, 0, first, constant) {
+        Ok(term) => term,
+        Err(Memory) => return Err(Memory),
+    };
+    match append(&mut term, place, second) {
+        Ok(()) => Ok(Formula::Eq(term)),
+        Err(Memory) => Err(Memory),
+    }
+}
+
+/// A coefficient times the variable at a place.
+fn term(alloc: Global, place: u32, coefficient: &i128, constant: &i128) -> Result<Linear, Memory>
+    requires some { coefficient.now ≡ pos 0 → ⊥ }
+    requires small { unsigned_abs coefficient.now ≤ 2 ^ 24 }
+    requires low { unsigned_abs constant.now ≤ 2 ^ 40 }
+    ensures is { IfOk result (λ a. a ≡ record { terms = (place, coefficient.now) ∷ []; constant = constant.now }) }
+    ensures over { IfOk result (λ a. (m : ℕ) → place < m → IsTermOver m a) }
 {
     let mut term = Linear::new(alloc, *constant);
-    match append(&mut term, 0, coefficient) {
-        Ok(()) => Ok(Formula::Le(term)),
+    match append(&mut term, place, coefficient) {
+        Ok(()) => Ok(term),
         Err(Memory) => Err(Memory),
     }
 }
 
 fn not(alloc: Global, inner: Formula) -> Result<Formula, Memory>
-    requires over { IsOver 1 (formula_of inner) }
-    requires free { BindsIntegers (formula_of inner) }
-    ensures over { IfOk result (λ f. IsOver 1 (formula_of f)) }
-    ensures free { IfOk result (λ f. BindsIntegers (formula_of f)) }
+    requires bound { BindsIntegers (formula_of inner) }
+    ensures over { IfOk result (λ f. (m : ℕ) → IsOver m (formula_of inner) → IsOver m (formula_of f)) }
+    ensures bound { IfOk result (λ f. BindsIntegers (formula_of f)) }
 {
     match Box::new(alloc, inner) {
         Ok(inner) => Ok(Formula::Not(inner)),
@@ -43,12 +110,10 @@ fn not(alloc: Global, inner: Formula) -> Result<Formula, Memory>
 }
 
 fn and(alloc: Global, left: Formula, right: Formula) -> Result<Formula, Memory>
-    requires left { IsOver 1 (formula_of left) }
-    requires right { IsOver 1 (formula_of right) }
-    requires left_free { BindsIntegers (formula_of left) }
-    requires right_free { BindsIntegers (formula_of right) }
-    ensures over { IfOk result (λ f. IsOver 1 (formula_of f)) }
-    ensures free { IfOk result (λ f. BindsIntegers (formula_of f)) }
+    requires left_bound { BindsIntegers (formula_of left) }
+    requires right_bound { BindsIntegers (formula_of right) }
+    ensures over { IfOk result (λ f. (m : ℕ) → IsOver m (formula_of left) → IsOver m (formula_of right) → IsOver m (formula_of f)) }
+    ensures bound { IfOk result (λ f. BindsIntegers (formula_of f)) }
 {
     let first = match Box::new(alloc, left) {
         Ok(first) => first,
@@ -61,12 +126,10 @@ fn and(alloc: Global, left: Formula, right: Formula) -> Result<Formula, Memory>
 }
 
 fn or(alloc: Global, left: Formula, right: Formula) -> Result<Formula, Memory>
-    requires left { IsOver 1 (formula_of left) }
-    requires right { IsOver 1 (formula_of right) }
-    requires left_free { BindsIntegers (formula_of left) }
-    requires right_free { BindsIntegers (formula_of right) }
-    ensures over { IfOk result (λ f. IsOver 1 (formula_of f)) }
-    ensures free { IfOk result (λ f. BindsIntegers (formula_of f)) }
+    requires left_bound { BindsIntegers (formula_of left) }
+    requires right_bound { BindsIntegers (formula_of right) }
+    ensures over { IfOk result (λ f. (m : ℕ) → IsOver m (formula_of left) → IsOver m (formula_of right) → IsOver m (formula_of f)) }
+    ensures bound { IfOk result (λ f. BindsIntegers (formula_of f)) }
 {
     let first = match Box::new(alloc, left) {
         Ok(first) => first,
@@ -78,6 +141,37 @@ fn or(alloc: Global, left: Formula, right: Formula) -> Result<Formula, Memory>
     }
 }
 
+/// For some integer, at the next place.
+fn exists(alloc: Global, body: Formula) -> Result<Formula, Memory>
+    requires bound { BindsIntegers (formula_of body) }
+    ensures over { IfOk result (λ f. (m : ℕ) → IsOver (m + 1) (formula_of body) → IsOver m (formula_of f)) }
+    ensures bound { IfOk result (λ f. BindsIntegers (formula_of f)) }
+{
+    match Box::new(alloc, body) {
+        Ok(body) => Ok(Formula::Exists(Sort::Int, body)),
+        Err(_) => Err(Memory),
+    }
+}
+
+/// Over no variables, in base 2.
+fn over_none(
+    rt: &impl Abort,
+    alloc: Global,
+    formula: &Formula,
+    limit: u64,
+) -> Result<Canon, CompileError>
+    requires over { IsOver 0 (formula_of formula.now) }
+    requires bound { BindsIntegers (formula_of formula.now) }
+    requires limit { limit ≤ 16777216 }
+{
+    let two = match Base::new(2) {
+        Some(two) => two,
+        None => return Err(CompileError::Memory),
+    };
+    assert!(rt; fits_letters(two, formula, 0));
+    compile(alloc, two, &[], formula, limit)
+}
+
 /// Over one integer, in base 2.
 fn over_one(
     rt: &impl Abort,
@@ -86,7 +180,7 @@ fn over_one(
     limit: u64,
 ) -> Result<Canon, CompileError>
     requires over { IsOver 1 (formula_of formula.now) }
-    requires free { BindsIntegers (formula_of formula.now) }
+    requires bound { BindsIntegers (formula_of formula.now) }
     requires limit { limit ≤ 16777216 }
 {
     let two = match Base::new(2) {
@@ -105,7 +199,7 @@ fn over_two(
     limit: u64,
 ) -> Result<Canon, CompileError>
     requires over { IsOver 2 (formula_of formula.now) }
-    requires free { BindsIntegers (formula_of formula.now) }
+    requires bound { BindsIntegers (formula_of formula.now) }
     requires limit { limit ≤ 16777216 }
 {
     let two = match Base::new(2) {
@@ -198,4 +292,177 @@ fn an_unused_variable(rt: HostRuntime) -> Result<(), Fail> {
     row_is(&rt, made.table(), 0, &[0, 0, 2, 2]);
     is_heavy(&rt, over_two(&rt, rt.alloc(), &formula, 34));
     Ok(())
+}
+
+// 2x = 6 has 27 cells.
+#[test]
+fn an_equation(rt: HostRuntime) -> Result<(), Fail> {
+    let formula = equal(rt.alloc(), &2, &6)?;
+    let made = over_one(&rt, rt.alloc(), &formula, 27)?;
+    roots_are(&rt, made.table(), &[0, 1]);
+    outs_are(&rt, made.table(), &[0, 0, 0, 1]);
+    row_is(&rt, made.table(), 0, &[0, 2]);
+    row_is(&rt, made.table(), 2, &[1, 3]);
+    row_is(&rt, made.table(), 3, &[1, 1]);
+    is_heavy(&rt, over_one(&rt, rt.alloc(), &formula, 26));
+    Ok(())
+}
+
+// The atoms have 30 and 18 cells, their pairs 154, and the subsets 28: x is at least 2.
+#[test]
+fn a_bound_variable(rt: HostRuntime) -> Result<(), Fail> {
+    let formula = fourfold_is_high(rt.alloc())?;
+    let made = over_one(&rt, rt.alloc(), &formula, 154)?;
+    roots_are(&rt, made.table(), &[0, 1]);
+    outs_are(&rt, made.table(), &[0, 0, 0, 1]);
+    row_is(&rt, made.table(), 0, &[0, 2]);
+    row_is(&rt, made.table(), 1, &[1, 1]);
+    row_is(&rt, made.table(), 2, &[3, 3]);
+    row_is(&rt, made.table(), 3, &[3, 3]);
+    is_heavy(&rt, over_one(&rt, rt.alloc(), &formula, 153));
+    Ok(())
+}
+
+/// For some y, y = 4x and y is at least 8.
+fn fourfold_is_high(alloc: Global) -> Result<Formula, Memory>
+    ensures over { IfOk result (λ f. IsOver 1 (formula_of f)) }
+    ensures bound { IfOk result (λ f. BindsIntegers (formula_of f)) }
+{
+    let fourfold = match sum_equal(alloc, &-4, 1, &1, &0) {
+        Ok(fourfold) => fourfold,
+        Err(Memory) => return Err(Memory),
+    };
+    let high = match next_at_most(alloc, &-1, &-8) {
+        Ok(high) => high,
+        Err(Memory) => return Err(Memory),
+    };
+    match and(alloc, fourfold, high) {
+        Ok(body) => exists(alloc, body),
+        Err(Memory) => Err(Memory),
+    }
+}
+
+// The atoms have 30 and 40 cells, their pairs 77, and the subsets, which are the largest step, 84.
+#[test]
+fn heavy_subsets(rt: HostRuntime) -> Result<(), Fail> {
+    let formula = one_of_two(rt.alloc())?;
+    let made = over_one(&rt, rt.alloc(), &formula, 84)?;
+    roots_are(&rt, made.table(), &[0, 1]);
+    outs_are(&rt, made.table(), &[1, 1, 0, 1, 0, 1, 0]);
+    row_is(&rt, made.table(), 2, &[3, 4]);
+    row_is(&rt, made.table(), 5, &[3, 4]);
+    row_is(&rt, made.table(), 6, &[0, 2]);
+    is_heavy(&rt, over_one(&rt, rt.alloc(), &formula, 83));
+    Ok(())
+}
+
+/// For some y, x = 4y or 4x + 3y = -1.
+fn one_of_two(alloc: Global) -> Result<Formula, Memory>
+    ensures over { IfOk result (λ f. IsOver 1 (formula_of f)) }
+    ensures bound { IfOk result (λ f. BindsIntegers (formula_of f)) }
+{
+    let fourth = match sum_equal(alloc, &-1, 1, &4, &0) {
+        Ok(fourth) => fourth,
+        Err(Memory) => return Err(Memory),
+    };
+    let other = match sum_equal(alloc, &4, 1, &3, &-1) {
+        Ok(other) => other,
+        Err(Memory) => return Err(Memory),
+    };
+    match or(alloc, fourth, other) {
+        Ok(body) => exists(alloc, body),
+        Err(Memory) => Err(Memory),
+    }
+}
+
+// The bound variable is not used, and costs no step.
+#[test]
+fn an_unused_bound_variable(rt: HostRuntime) -> Result<(), Fail> {
+    let formula = low_for_some(rt.alloc())?;
+    let made = over_one(&rt, rt.alloc(), &formula, 15)?;
+    roots_are(&rt, made.table(), &[0, 1]);
+    outs_are(&rt, made.table(), &[1, 1, 1, 1, 0]);
+    is_heavy(&rt, over_one(&rt, rt.alloc(), &formula, 14));
+    Ok(())
+}
+
+/// For some y, x is at most 3.
+fn low_for_some(alloc: Global) -> Result<Formula, Memory>
+    ensures over { IfOk result (λ f. IsOver 1 (formula_of f)) }
+    ensures bound { IfOk result (λ f. BindsIntegers (formula_of f)) }
+{
+    match at_most(alloc, &1, &3) {
+        Ok(low) => exists(alloc, low),
+        Err(Memory) => Err(Memory),
+    }
+}
+
+// z stands at place 2, and on the second track. The atom has 25 cells and the subsets 15.
+#[test]
+fn bound_variables_in_one_another(rt: HostRuntime) -> Result<(), Fail> {
+    let formula = threefold(rt.alloc())?;
+    let made = over_one(&rt, rt.alloc(), &formula, 25)?;
+    roots_are(&rt, made.table(), &[0, 1]);
+    outs_are(&rt, made.table(), &[1, 0, 0]);
+    row_is(&rt, made.table(), 0, &[0, 2]);
+    is_heavy(&rt, over_one(&rt, rt.alloc(), &formula, 24));
+    Ok(())
+}
+
+/// For some y, for some z, x = 3z.
+fn threefold(alloc: Global) -> Result<Formula, Memory>
+    ensures over { IfOk result (λ f. IsOver 1 (formula_of f)) }
+    ensures bound { IfOk result (λ f. BindsIntegers (formula_of f)) }
+{
+    let body = match sum_equal(alloc, &1, 2, &-3, &0) {
+        Ok(body) => body,
+        Err(Memory) => return Err(Memory),
+    };
+    match exists(alloc, body) {
+        Ok(inner) => exists(alloc, inner),
+        Err(Memory) => Err(Memory),
+    }
+}
+
+// The atom has 18 cells and the subsets 8.
+#[test]
+fn a_true_sentence(rt: HostRuntime) -> Result<(), Fail> {
+    let formula = some_is_high(rt.alloc())?;
+    let made = over_none(&rt, rt.alloc(), &formula, 18)?;
+    roots_are(&rt, made.table(), &[0]);
+    outs_are(&rt, made.table(), &[1]);
+    row_is(&rt, made.table(), 0, &[0]);
+    is_heavy(&rt, over_none(&rt, rt.alloc(), &formula, 17));
+    Ok(())
+}
+
+/// Some y is at least 8.
+fn some_is_high(alloc: Global) -> Result<Formula, Memory>
+    ensures over { IfOk result (λ f. IsOver 0 (formula_of f)) }
+    ensures bound { IfOk result (λ f. BindsIntegers (formula_of f)) }
+{
+    match at_most(alloc, &-1, &-8) {
+        Ok(high) => exists(alloc, high),
+        Err(Memory) => Err(Memory),
+    }
+}
+
+#[test]
+fn a_false_sentence(rt: HostRuntime) -> Result<(), Fail> {
+    let formula = five_thirds(rt.alloc())?;
+    let made = over_none(&rt, rt.alloc(), &formula, 27)?;
+    roots_are(&rt, made.table(), &[0]);
+    outs_are(&rt, made.table(), &[0]);
+    Ok(())
+}
+
+/// For some y, 3y = 5.
+fn five_thirds(alloc: Global) -> Result<Formula, Memory>
+    ensures over { IfOk result (λ f. IsOver 0 (formula_of f)) }
+    ensures bound { IfOk result (λ f. BindsIntegers (formula_of f)) }
+{
+    match equal(alloc, &3, &5) {
+        Ok(body) => exists(alloc, body),
+        Err(Memory) => Err(Memory),
+    }
 }

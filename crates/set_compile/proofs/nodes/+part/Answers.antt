@@ -1,5 +1,5 @@
 -- Each node's clauses from those of its parts.
-use Rattle.std.proofs.Common.{◌≡◌, ◌≤◌, ◌+◌, ◌^◌, ℕ, ℤ, List, length, sym, ap, ap₂, ◌∙◌, subst}
+use Rattle.std.proofs.Common.{◌≡◌, ℤ, List, length, sym, ap, ap₂, ◌∙◌, subst}
 use Rattle.std.specs.Prelude.{IfOk}
 use Rattle.std.proofs.lemmas.Result.{IfOk-weaker}
 use Rattle.lash_model.specs.Formulas as model
@@ -7,13 +7,11 @@ use Rattle.lash_model.specs.Meaning.{holds}
 use Rattle.lash_model.specs.Standing.{StandsForWhole}
 use Rattle.lash_model.specs.Thresholds.{AtMost, Equal, IsHeavyAtom}
 use Rattle.step_tables.specs.Kept.{Kept}
-use Rattle.formula_core.specs.Atoms.{HasLinearAtoms}
 use Rattle.formula_core.specs.Counts.{free_places}
 use Rattle.formula_core.specs.Shape.{formula_of}
 use Rattle.formula_core.specs.Variables.{sort_of}
 use Rattle.product_ops.specs.Negation.{AcceptsOthers}
 use Rattle.product_ops.specs.Operations.{joined, set_of}
-use Rattle.product_ops.specs.Tracks.{TrackLists}
 use Rattle.product_ops.specs.declared.operation.Op.TheVariants.{And as Both, Or as Either}
 use Rattle.set_compile.specs.Conditions.{IsOver, IsTermOver, BindsIntegers, IsNarrow}
 use Rattle.set_compile.specs.Positions.{shared, spread}
@@ -218,7 +216,7 @@ part-returns-in-Or-clause-stands t c =
 pub part-returns-in-Ok-part-clause-shape : goal.part-returns-in-Ok-part-clause-shape
 part-returns-in-Ok-part-clause-shape t c =
     let m = c.args.places in
-    let integer : sort_of c.in-Exists.field-0 ≡ model.Int = (subst (λ h. BindsIntegers (formula_of h)) c.in-Exists.is c.requires.free).0 in
+    let integer : sort_of c.in-Exists.field-0 ≡ model.Int = (subst (λ h. BindsIntegers (formula_of h)) c.in-Exists.is c.requires.bound).0 in
     let whole : model.Exists model.Int (formula_of c.deref-in-Ok-part.result.now) ≡ formula_of c.args.formula.now = ap (λ x. model.Exists model.Int (formula_of x)) c.deref-in-Ok-part.ensures ∙ ap (λ x. model.Exists x (formula_of c.in-Exists.inner.value)) (sym integer) ∙ sym (ap formula_of c.in-Exists.is) in
     let P : Kept → Type 0 = λ k. IsMade c.args.base m c.args.limit (formula_of c.args.formula.now) k.table in
     let R : Kept → Type 0 = λ k. IsShaped c.args.base (length (free_places (formula_of c.args.formula.now) m)) k.table in
@@ -229,6 +227,6 @@ part-returns-in-Ok-part-clause-shape t c =
 pub part-returns-in-Ok-part-clause-stands : goal.part-returns-in-Ok-part-clause-stands
 part-returns-in-Ok-part-clause-stands t c =
     let m = c.args.places in
-    let integer : sort_of c.in-Exists.field-0 ≡ model.Int = (subst (λ h. BindsIntegers (formula_of h)) c.in-Exists.is c.requires.free).0 in
+    let integer : sort_of c.in-Exists.field-0 ≡ model.Int = (subst (λ h. BindsIntegers (formula_of h)) c.in-Exists.is c.requires.bound).0 in
     let whole : model.Exists model.Int (formula_of c.deref-in-Ok-part.result.now) ≡ formula_of c.args.formula.now = ap (λ x. model.Exists model.Int (formula_of x)) c.deref-in-Ok-part.ensures ∙ ap (λ x. model.Exists x (formula_of c.in-Exists.inner.value)) (sym integer) ∙ sym (ap formula_of c.in-Exists.is) in
     subst (λ h. IfOk c.bound.result (λ (k : Kept). StandsForWhole k.table (set_of h (spread m (free_places h m))))) whole c.bound.ensures.stands
