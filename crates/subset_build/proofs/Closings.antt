@@ -29,7 +29,7 @@ marked_below m q h = elim (cases_lt q (length m.marked)) [
 pub still_marked : (b : Bool) (m : Marking) (q x : ℕ) → is_marked m x ≡ true → is_marked (met_by b m q) x ≡ true
 still_marked true m q x h = h
 still_marked false m q x h = elim (cases_eq x q) [
-  | inl e ↦ ap (slice_index_or (slice_set m.marked q true) x) refl ∙ subst (λ y. slice_index_or (slice_set m.marked q true) y false ≡ true) (sym e) (get_or-set_same m.marked q true false (subst (λ y. y < length m.marked) e (marked_below m x h)))
+  | inl e ↦ subst (λ y. slice_index_or (slice_set m.marked q true) y false ≡ true) (sym e) (get_or-set_same m.marked q true false (subst (λ y. y < length m.marked) e (marked_below m x h)))
   | inr apart ↦ get_or-set_other m.marked q x true false apart ∙ h
 ]
 
@@ -185,14 +185,11 @@ state_more t track sign at m h inside = record {
   upto = omega (arith, inside);
   followed = λ i d lt below. elim (cases_lt i at) [
     | inl before ↦ h.followed i d before below
-    | inr last ↦ subst (λ j. is_marked m (target t track (sign_letter t.base (kept t) sign) (slice_index m.states j) d) ≡ true) (here i (omega (arith, lt, last))) (h.following d below)
+    | inr last ↦ let same : at ≡ i = omega (arith, lt, last) in subst (λ j. is_marked m (target t track (sign_letter t.base (kept t) sign) (slice_index m.states j) d) ≡ true) same (h.following d below)
   ];
   inside = λ lt. absurd (omega (arith, lt));
   following = λ d lt. absurd (omega (arith, lt));
 }
-  where
-    here : (i : ℕ) → at ≡ i → at ≡ i
-    here i e = e
 
 -- ---- the closed set
 word_marked : (t : Table) (track sign : ℕ) (m : Marking) → IsMarking m → IsClosing t track sign 2 (length m.states) 0 m → (x : ℕ) (word : List ℕ) → is_marked m x ≡ true → AllByRecursion (λ d. d < t.base) word → is_marked m (go t.rows (letters t) x (map (with_digit t.base (kept t) track (sign_letter t.base (kept t) sign)) word)) ≡ true

@@ -12,49 +12,47 @@ use std::process::Abort;
 use std::test::Fail;
 use step_tables::{BuildError, Plain, Table};
 
-/// Gives a state of a diagram of one track its output and its targets.
-fn set_short_row(rt: &impl Abort, table: &mut Table<Plain>, state: u32, out: u32, targets: [u32; 2])
+/// Gives a diagram its roots.
+fn set_roots(rt: &impl Abort, table: &mut Table<Plain>, roots: &[u32])
     requires cells { table.old.bounds ≡ wide }
     ensures cells { table.new.bounds ≡ wide }
 {
-    let [zero, one] = targets;
-    assert!(rt; table.letters() == 2 && state < table.ints());
-    assert!(rt; zero < table.ints() && one < table.ints());
-    assert!(rt; out < 2 && table.fracs() == 0);
-    table.set_out(state, out);
-    table.set_int(state, 0, zero);
-    table.set_int(state, 1, one);
+    assert!(rt; roots.len() <= 4);
+    for sign in 0..roots.len() as u32 {
+        let root = roots[sign as usize];
+        assert!(rt; table.tracks() <= 2 && sign < 2u32.pow(table.tracks()));
+        assert!(rt; root < table.ints());
+        table.set_root(sign, root);
+    }
 }
 
-/// Gives a state of a diagram of two tracks its output and its targets.
-fn set_row(rt: &impl Abort, table: &mut Table<Plain>, state: u32, out: u32, targets: [u32; 4])
+/// Gives the states of a diagram their targets, one row behind another.
+fn set_rows(rt: &impl Abort, table: &mut Table<Plain>, rows: &[u32])
     requires cells { table.old.bounds ≡ wide }
     ensures cells { table.new.bounds ≡ wide }
 {
-    let [a, b, c, d] = targets;
-    assert!(rt; table.letters() == 4 && state < table.ints());
-    assert!(rt; a < table.ints() && b < table.ints());
-    assert!(rt; c < table.ints() && d < table.ints());
-    assert!(rt; out < 2 && table.fracs() == 0);
-    table.set_out(state, out);
-    table.set_int(state, 0, a);
-    table.set_int(state, 1, b);
-    table.set_int(state, 2, c);
-    table.set_int(state, 3, d);
+    assert!(rt; rows.len() <= 36);
+    for place in 0..rows.len() as u32 {
+        let letters = table.letters();
+        let to = rows[place as usize];
+        assert!(rt; letters > 0 && place / letters < table.ints());
+        assert!(rt; place % letters < table.letters() && to < table.ints());
+        table.set_int(place / letters, place % letters, to);
+    }
 }
 
-/// Gives a diagram of two tracks its roots.
-fn set_roots(rt: &impl Abort, table: &mut Table<Plain>, roots: [u32; 4])
+/// Gives the states of a diagram their outputs.
+fn set_outs(rt: &impl Abort, table: &mut Table<Plain>, outs: &[u32])
     requires cells { table.old.bounds ≡ wide }
     ensures cells { table.new.bounds ≡ wide }
 {
-    let [a, b, c, d] = roots;
-    assert!(rt; table.tracks() == 2 && a < table.ints() && b < table.ints());
-    assert!(rt; c < table.ints() && d < table.ints());
-    table.set_root(0, a);
-    table.set_root(1, b);
-    table.set_root(2, c);
-    table.set_root(3, d);
+    assert!(rt; outs.len() <= 9);
+    for state in 0..outs.len() as u32 {
+        let out = outs[state as usize];
+        assert!(rt; state < table.ints() && out < 2);
+        assert!(rt; table.fracs() == 0);
+        table.set_out(state, out);
+    }
 }
 
 /// The diagram of x = y.
@@ -65,9 +63,9 @@ fn equal(rt: &impl Abort, alloc: Global, two: Base) -> Result<Table<Plain>, Memo
         Ok(table) => table,
         Err(Memory) => return Err(Memory),
     };
-    set_roots(rt, &mut table, [0, 1, 1, 0]);
-    set_row(rt, &mut table, 0, 1, [0, 1, 1, 0]);
-    set_row(rt, &mut table, 1, 0, [1, 1, 1, 1]);
+    set_roots(rt, &mut table, &[0, 1, 1, 0]);
+    set_rows(rt, &mut table, &[0, 1, 1, 0, 1, 1, 1, 1]);
+    set_outs(rt, &mut table, &[1, 0]);
     Ok(table)
 }
 
@@ -79,12 +77,17 @@ fn twice(rt: &impl Abort, alloc: Global, two: Base) -> Result<Table<Plain>, Memo
         Ok(table) => table,
         Err(Memory) => return Err(Memory),
     };
-    set_roots(rt, &mut table, [0, 1, 1, 2]);
-    set_row(rt, &mut table, 0, 1, [0, 1, 2, 1]);
-    set_row(rt, &mut table, 1, 0, [1, 1, 1, 1]);
-    set_row(rt, &mut table, 2, 0, [1, 0, 1, 2]);
+    set_roots(rt, &mut table, &[0, 1, 1, 2]);
+    set_rows(rt, &mut table, &[0, 1, 2, 1, 1, 1, 1, 1, 1, 0, 1, 2]);
+    set_outs(rt, &mut table, &[1, 0, 0]);
     Ok(table)
 }
+
+/// The rows of the diagram of y = 4x and y >= 8.
+const FOUR_TIMES: [u32; 36] = [
+    0, 2, 1, 1, 1, 1, 1, 1, 3, 4, 1, 1, 1, 1, 5, 6, 1, 1, 7, 4, 8, 6, 1, 1, 7, 4, 1, 1, 1, 1, 8, 6,
+    8, 6, 1, 1,
+];
 
 /// The diagram of y = 4x and y >= 8.
 fn four_times(rt: &impl Abort, alloc: Global, two: Base) -> Result<Table<Plain>, Memory>
@@ -94,16 +97,9 @@ fn four_times(rt: &impl Abort, alloc: Global, two: Base) -> Result<Table<Plain>,
         Ok(table) => table,
         Err(Memory) => return Err(Memory),
     };
-    set_roots(rt, &mut table, [0, 1, 1, 1]);
-    set_row(rt, &mut table, 0, 0, [0, 2, 1, 1]);
-    set_row(rt, &mut table, 1, 0, [1, 1, 1, 1]);
-    set_row(rt, &mut table, 2, 0, [3, 4, 1, 1]);
-    set_row(rt, &mut table, 3, 0, [1, 1, 5, 6]);
-    set_row(rt, &mut table, 4, 0, [1, 1, 7, 4]);
-    set_row(rt, &mut table, 5, 0, [8, 6, 1, 1]);
-    set_row(rt, &mut table, 6, 0, [7, 4, 1, 1]);
-    set_row(rt, &mut table, 7, 0, [1, 1, 8, 6]);
-    set_row(rt, &mut table, 8, 1, [8, 6, 1, 1]);
+    set_roots(rt, &mut table, &[0, 1, 1, 1]);
+    set_rows(rt, &mut table, &FOUR_TIMES);
+    set_outs(rt, &mut table, &[0, 0, 0, 0, 0, 0, 0, 0, 1]);
     Ok(table)
 }
 
@@ -115,12 +111,9 @@ fn at_most_three(rt: &impl Abort, alloc: Global, two: Base) -> Result<Table<Plai
         Ok(table) => table,
         Err(Memory) => return Err(Memory),
     };
-    table.set_root(1, 1);
-    set_short_row(rt, &mut table, 0, 1, [0, 2]);
-    set_short_row(rt, &mut table, 1, 1, [1, 1]);
-    set_short_row(rt, &mut table, 2, 1, [3, 3]);
-    set_short_row(rt, &mut table, 3, 1, [4, 4]);
-    set_short_row(rt, &mut table, 4, 0, [4, 4]);
+    set_roots(rt, &mut table, &[0, 1]);
+    set_rows(rt, &mut table, &[0, 2, 1, 1, 3, 3, 4, 4, 4, 4]);
+    set_outs(rt, &mut table, &[1, 1, 1, 1, 0]);
     Ok(table)
 }
 
