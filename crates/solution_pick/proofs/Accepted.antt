@@ -1,20 +1,18 @@
 -- The least path to the first state whose output is yes is the least accepted one.
-use Rattle.std.proofs.Common.{◌≡◌, ℕ, zero, suc, ◌+◌, ◌*◌, ◌^◌, ◌≤◌, ◌<◌, Bool, true, false, List, [], ◌∷◌, inl, inr, arith, refl, ◌∙◌, sym, ap, subst}
+use Rattle.std.proofs.Common.{◌≡◌, ℕ, ◌^◌, ◌≤◌, ◌<◌, true, false, List, [], ◌∷◌, inl, inr, arith, ◌∙◌, sym, ap, subst}
 use Rattle.std.specs.Prelude.{slice_index, nat_eq, All}
 use Rattle.std.proofs.lemmas.Bool.{cases_lt, eqb-true}
 use Rattle.std.proofs.lemmas.List.Elements.{recursion_from_All, All-from_recursion}
-use Rattle.graph_laws.specs.Paths.{Path, AtMost}
-use Rattle.lash_model.specs.Formulas.{Sort, Formula}
-use Rattle.lash_model.specs.Tables.{Table, letters, ints, IsTable}
-use Rattle.lash_model.specs.Acceptance.{accepts_word, int_state}
-use Rattle.lash_model.specs.Lassos.{Lasso, IsLasso}
+use Rattle.graph_laws.specs.Paths.{Path}
+use Rattle.lash_model.specs.Tables.{Table, letters, IsTable}
+use Rattle.lash_model.specs.Acceptance.{int_state}
+use Rattle.lash_model.specs.Lassos.{IsLasso}
 use Rattle.lash_model.proofs.Digits.{power_positive}
 use Rattle.canonical_laws.specs.Canonical.{IsPathOf, IsCanonical}
 use Rattle.solution_pick.specs.Solutions.{AcceptsNothing, IsLeastAccepted}
 use Rattle.solution_pick.specs.Arrivals.{IsFirstYes, IsLeastTo}
-use Rattle.solution_pick.proofs.PathEnds.{meet, state_in}
+use Rattle.solution_pick.proofs.PathEnds.{meet}
 use Rattle.solution_pick.proofs.LeastPaths.{least_at_most}
-
 
 path_of : (t : Table) → IsTable t → (sign : ℕ) (w : List ℕ) → sign < 2 ^ t.tracks → All (λ l. l < letters t) w → IsPathOf t.roots (letters t) (record { start = sign; word = w })
 path_of t h sign w lt a = record { start = subst (λ n. sign < n) (sym h.roots_count) lt; letters = recursion_from_All (λ l. l < letters t) w a }

@@ -1,14 +1,13 @@
 -- Least paths to the states of a canonical diagram: over a root, or over the first step.
-use Rattle.std.proofs.Common.{◌≡◌, ℕ, zero, suc, ◌+◌, ◌*◌, ◌^◌, ◌≤◌, ◌<◌, List, [], ◌∷◌, ◌++◌, length, inl, inr, arith, refl, ◌∙◌, sym, ap, subst}
+use Rattle.std.proofs.Common.{◌≡◌, ℕ, ◌≤◌, ◌<◌, List, [], ◌∷◌, inl, inr, arith, refl, ◌∙◌, sym, ap, subst}
 use Rattle.std.specs.Prelude.{slice_index}
-use Rattle.std.specs.List.{AllByRecursion}
 use Rattle.std.proofs.lemmas.Bool.{cases_order, cases_lt}
 use Rattle.graph_laws.specs.Walks.{go}
 use Rattle.graph_laws.specs.Paths.{Path, Before, AtMost, more, start_path, path_at}
 use Rattle.graph_laws.specs.Paths.Before.{shorter, lower}
 use Rattle.graph_laws.proofs.PathOrder.{at_most_before, one_letter_more}
 use Rattle.lash_model.specs.Tables.{Table, letters, ints, IsTable}
-use Rattle.canonical_laws.specs.Canonical.{IsPathOf, walked, IsCanonical}
+use Rattle.canonical_laws.specs.Canonical.{IsPathOf, IsCanonical}
 use Rattle.solution_pick.specs.Arrivals.{target, IsNoRoot, IsFirstRoot, IsFirstLetter, IsLeastTo}
 use Rattle.solution_pick.proofs.PathEnds.{never, before_more, before_at_most, more_at_most, state_of, state_in, more_valid, more_leads, Arrived, arrived}
 

@@ -6,8 +6,8 @@ use Rattle.std.proofs.lemmas.List.{length-set, get_or-set_same, get_or-set_other
 use Rattle.lash_model.specs.Tables.{Table, letters, ints, IsTable}
 use Rattle.canonical_laws.specs.Canonical.{IsCanonical}
 use Rattle.canonical_laws.proofs.Diagrams.{read_below, place_within}
-use Rattle.solution_pick.specs.Arrivals.{target, IsNoRoot, HasLetter, IsFirstLetter, IsParent, AreParents}
-use Rattle.solution_pick.proofs.LeastPaths.{IsFirstStep, StepBefore, step_before}
+use Rattle.solution_pick.specs.Arrivals.{target, IsNoRoot, HasLetter, IsParent, AreParents}
+use Rattle.solution_pick.proofs.LeastPaths.{StepBefore, step_before}
 
 pub none_marked : (t : Table) (parents : List ℕ) → length parents ≡ ints t → AreParents t (ints t) 0 parents
 none_marked t parents e = record { count = e; each = λ p l p_in l_in marked. elim marked [ inl ge ↦ absurd (omega (arith, ge, p_in)) | inr last ↦ absurd (omega (arith, last.1)) ] }

@@ -1,10 +1,10 @@
 -- Walking back from a state, with the letters that were passed, the last first.
-use Rattle.std.proofs.Common.{◌≡◌, ℕ, ◌<◌, List, [], ◌∷◌, ◌++◌, arith, refl, ◌∙◌, sym, ap, subst, slice_index}
+use Rattle.std.proofs.Common.{ℕ, ◌<◌, List, [], ◌∷◌, ◌++◌, arith, ◌∙◌, sym, ap, subst, slice_index}
 use mathlib.Core.List.{reverse}
 use Rattle.std.proofs.lemmas.List.{reverse-append}
 use Rattle.graph_laws.specs.Paths.{Path, more, start_path}
 use Rattle.graph_laws.proofs.PathOrder.{longer, no_more, one_then}
-use Rattle.lash_model.specs.Tables.{Table, letters, ints}
+use Rattle.lash_model.specs.Tables.{Table, ints}
 use Rattle.canonical_laws.specs.Canonical.{IsCanonical}
 use Rattle.solution_pick.specs.Arrivals.{IsNoRoot, IsFirstRoot, IsFirstLetter, IsLeastTo, AreParents}
 use Rattle.solution_pick.proofs.LeastPaths.{root_least, step_least}

@@ -14,37 +14,39 @@ use std::test::Fail;
 use step_tables::{Plain, Table};
 use weak_min::{Canon, canonical};
 
-/// Gives a state its output and its two targets.
-fn set_row(rt: &impl Abort, table: &mut Table<Plain>, state: u32, row: [u32; 3])
+/// Changes a target.
+fn set_target(rt: &impl Abort, table: &mut Table<Plain>, state: u32, letter: u32, to: u32)
     requires { table.old.bounds ≡ wide }
-    ensures bounds { table.new.bounds ≡ wide }
-    ensures colours { table.new.table.colours ≡ table.old.table.colours }
-    ensures base { table.new.table.base ≡ table.old.table.base }
-    ensures tracks { table.new.table.tracks ≡ table.old.table.tracks }
+    ensures { table.new.bounds ≡ wide }
 {
-    let [out, zero, one] = row;
-    assert!(rt; table.letters() == 2 && state < table.ints());
-    assert!(rt; zero < table.ints() && one < table.ints());
-    assert!(rt; out < 2 && table.fracs() == 0);
-    table.set_out(state, out);
-    table.set_int(state, 0, zero);
-    table.set_int(state, 1, one);
+    assert!(rt; state < table.ints());
+    assert!(rt; letter < table.letters());
+    assert!(rt; to < table.ints());
+    table.set_int(state, letter, to);
 }
 
-/// Gives a state its four targets.
-fn set_four(rt: &impl Abort, table: &mut Table<Plain>, state: u32, row: [u32; 4])
+/// Changes an output.
+fn set_answer(rt: &impl Abort, table: &mut Table<Plain>, state: u32, answer: u32)
     requires { table.old.bounds ≡ wide }
-    ensures bounds { table.new.bounds ≡ wide }
-    ensures colours { table.new.table.colours ≡ table.old.table.colours }
+    ensures { table.new.bounds ≡ wide }
 {
-    let [first, second, third, fourth] = row;
-    assert!(rt; table.letters() == 4 && state < table.ints());
-    assert!(rt; first < table.ints() && second < table.ints());
-    assert!(rt; third < table.ints() && fourth < table.ints());
-    table.set_int(state, 0, first);
-    table.set_int(state, 1, second);
-    table.set_int(state, 2, third);
-    table.set_int(state, 3, fourth);
+    assert!(rt; state < table.ints());
+    assert!(rt; table.fracs() == 0);
+    assert!(rt; answer < 2);
+    table.set_out(state, answer);
+}
+
+/// Gives a state its output and its targets.
+fn set_row(rt: &impl Abort, table: &mut Table<Plain>, state: u32, answer: u32, targets: &[u32])
+    requires { table.old.bounds ≡ wide }
+    ensures { table.new.bounds ≡ wide }
+{
+    set_answer(rt, table, state, answer);
+    let mut letter = 0u32;
+    for to in targets {
+        set_target(rt, table, state, letter, *to);
+        letter = letter.wrapping_add(1);
+    }
 }
 
 /// A set of numbers that is told by its answers to 0, to negative numbers, to 1, to 2, to 3, and to those above.
@@ -65,12 +67,15 @@ fn told_by(
     };
     let [zero, negative, one, two, three, above] = outs;
     table.set_root(1, 1);
-    set_row(rt, &mut table, 0, [zero, 0, 2]);
-    set_row(rt, &mut table, 1, [negative, 1, 1]);
-    set_row(rt, &mut table, 2, [one, 3, 4]);
-    set_row(rt, &mut table, 3, [two, 5, 5]);
-    set_row(rt, &mut table, 4, [three, 5, 5]);
-    set_row(rt, &mut table, 5, [above, 5, 5]);
+    set_row(rt, &mut table, 0, zero, &[0, 2]);
+    set_row(rt, &mut table, 1, negative, &[1, 1]);
+    set_row(rt, &mut table, 2, one, &[3, 4]);
+    set_row(rt, &mut table, 3, two, &[5, 5]);
+    set_row(rt, &mut table, 4, three, &[5, 5]);
+    set_row(rt, &mut table, 5, above, &[5, 5]);
+    assert!(rt; table.base() == base);
+    assert!(rt; table.tracks() == 1);
+    assert!(rt; table.fracs() == 0);
     Ok(table)
 }
 
@@ -84,11 +89,11 @@ fn two_sided(rt: &impl Abort, alloc: Global, base: Base) -> Result<Table<Plain>,
         Err(Memory) => return Err(Memory),
     };
     table.set_root(1, 1);
-    table.set_out(3, 1);
-    set_four(rt, &mut table, 1, [2, 1, 3, 4]);
-    set_four(rt, &mut table, 2, [2, 2, 3, 3]);
-    set_four(rt, &mut table, 3, [3, 3, 3, 3]);
-    set_four(rt, &mut table, 4, [3, 4, 3, 4]);
+    set_row(rt, &mut table, 1, 0, &[2, 1, 3, 4]);
+    set_row(rt, &mut table, 2, 0, &[2, 2, 3, 3]);
+    set_row(rt, &mut table, 3, 1, &[3, 3, 3, 3]);
+    set_row(rt, &mut table, 4, 0, &[3, 4, 3, 4]);
+    assert!(rt; table.fracs() == 0);
     Ok(table)
 }
 
@@ -129,13 +134,51 @@ fn check_solution(
     check_found(rt, alloc, &canon, sign, letters)
 }
 
-fn check_none(rt: &impl Abort, alloc: Global, table: &Table<Plain>) -> Result<(), Fail>
-    requires { IsDiagram table.now.table }
+fn check_told(
+    rt: &impl Abort,
+    alloc: Global,
+    base: Base,
+    outs: [u32; 6],
+    sign: u32,
+    letters: &[u32],
+) -> Result<(), Fail>
+    requires { base ≡ 2 }
 {
-    let canon = canonical(alloc, table)?;
+    let table = told_by(rt, alloc, base, outs)?;
+    check_solution(rt, alloc, &table, sign, letters)
+}
+
+fn check_none(rt: &impl Abort, alloc: Global, base: Base) -> Result<(), Fail>
+    requires { base ≡ 2 }
+{
+    let table = told_by(rt, alloc, base, [0, 0, 0, 0, 0, 0])?;
+    let canon = canonical(alloc, &table)?;
     let found = solution(alloc, &canon)?;
     assert!(rt; found.is_none());
     Ok(())
+}
+
+fn check_pairs(rt: &impl Abort, alloc: Global, base: Base) -> Result<(), Fail>
+    requires { base ≡ 2 }
+{
+    let table = two_sided(rt, alloc, base)?;
+    check_solution(rt, alloc, &table, 1, &[2])
+}
+
+/// The canonical diagram of a set that is told by its answers.
+fn canon_told(rt: &impl Abort, alloc: Global, base: Base, outs: [u32; 6]) -> Result<Canon, Memory>
+    requires { base ≡ 2 }
+    ensures base { IfOk result (λ k. k.table.base ≡ 2) }
+    ensures tracks { IfOk result (λ k. k.table.tracks ≡ 1) }
+{
+    let table = match told_by(rt, alloc, base, outs) {
+        Ok(table) => table,
+        Err(Memory) => return Err(Memory),
+    };
+    match canonical(alloc, &table) {
+        Ok(canon) => Ok(canon),
+        Err(Memory) => Err(Memory),
+    }
 }
 
 // The solution of the one set is no member of the other.
@@ -150,57 +193,25 @@ fn check_apart(rt: &impl Abort, alloc: Global, one: &Canon, other: &Canon) -> Re
     Ok(())
 }
 
-fn check_members(
-    rt: &impl Abort,
-    alloc: Global,
-    above: &Table<Plain>,
-    below: &Table<Plain>,
-) -> Result<(), Fail>
-    requires above { IsDiagram above.now.table }
-    requires below { IsDiagram below.now.table }
-    requires bases { above.now.table.base ≡ below.now.table.base }
-    requires tracks { above.now.table.tracks ≡ below.now.table.tracks }
-{
-    let one = canonical(alloc, above)?;
-    let other = canonical(alloc, below)?;
-    check_apart(rt, alloc, &one, &other)?;
-    check_apart(rt, alloc, &other, &one)
-}
-
-// Of the numbers above 2 the least word is that of 3, two digits 1. Of those below 0 it is the empty one, of -1.
-fn check_ends(rt: &impl Abort, alloc: Global, base: Base) -> Result<(), Fail>
+fn check_members(rt: &impl Abort, alloc: Global, base: Base) -> Result<(), Fail>
     requires { base ≡ 2 }
 {
-    let above = told_by(rt, alloc, base, [0, 0, 0, 0, 1, 1])?;
-    check_solution(rt, alloc, &above, 0, &[1, 1])?;
-    let below = told_by(rt, alloc, base, [0, 1, 0, 0, 0, 0])?;
-    check_solution(rt, alloc, &below, 1, &[])?;
-    check_members(rt, alloc, &above, &below)
+    let above = canon_told(rt, alloc, base, [0, 0, 0, 0, 1, 1])?;
+    let below = canon_told(rt, alloc, base, [0, 1, 0, 0, 0, 0])?;
+    check_apart(rt, alloc, &above, &below)?;
+    check_apart(rt, alloc, &below, &above)
 }
 
-// Of the numbers up to 3 the least word is the empty one, of 0. The empty set has none.
-fn check_starts(rt: &impl Abort, alloc: Global, base: Base) -> Result<(), Fail>
-    requires { base ≡ 2 }
-{
-    let most = told_by(rt, alloc, base, [1, 1, 1, 1, 1, 0])?;
-    check_solution(rt, alloc, &most, 0, &[])?;
-    let empty = told_by(rt, alloc, base, [0, 0, 0, 0, 0, 0])?;
-    check_none(rt, alloc, &empty)
-}
-
-// The least word of the pairs is that of 1 and -2, one digit each.
-fn check_pairs(rt: &impl Abort, alloc: Global, base: Base) -> Result<(), Fail>
-    requires { base ≡ 2 }
-{
-    let pairs = two_sided(rt, alloc, base)?;
-    check_solution(rt, alloc, &pairs, 1, &[2])
-}
-
+// Of the numbers above 2 the least word is that of 3, two digits 1; of those up to 3 the empty one, of 0; of those below 0 the empty
+// one, of -1. Of the pairs it is that of 1 and -2, one digit each.
 #[test]
 fn least_words(rt: HostRuntime) -> Result<(), Fail> {
     let alloc = rt.alloc();
     let two = Base::new(2).ok_or("2 is a base")?;
-    check_ends(&rt, alloc, two)?;
-    check_starts(&rt, alloc, two)?;
-    check_pairs(&rt, alloc, two)
+    check_told(&rt, alloc, two, [0, 0, 0, 0, 1, 1], 0, &[1, 1])?;
+    check_told(&rt, alloc, two, [1, 1, 1, 1, 1, 0], 0, &[])?;
+    check_told(&rt, alloc, two, [0, 1, 0, 0, 0, 0], 1, &[])?;
+    check_pairs(&rt, alloc, two)?;
+    check_none(&rt, alloc, two)?;
+    check_members(&rt, alloc, two)
 }

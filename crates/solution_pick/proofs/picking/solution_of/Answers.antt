@@ -1,7 +1,6 @@
 -- The trail to the first state whose output is yes is the least accepted word, and the lasso is made of it.
 use Rattle.std.proofs.Common.{ℕ, List, sym, subst}
 use Rattle.lash_model.specs.Lassos.{Lasso, IsLasso}
-use Rattle.digit_codes.specs.Reading.{lasso_of}
 use Rattle.solution_pick.specs.Solutions.{IsLeastAccepted}
 use Rattle.solution_pick.proofs.Accepted.{least_accepted, in_range}
 use Rattle.solution_pick.proofs.picking.solution_of.Goals as goal
