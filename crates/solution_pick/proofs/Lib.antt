@@ -1,0 +1,6 @@
+pub mod PathEnds
+pub mod LeastPaths
+pub mod Marked
+pub mod Walked
+pub mod Accepted
+pub mod IdleLetters

@@ -1,0 +1,5 @@
+use Rattle.std.proofs.Common.{◌≡◌, ℕ, ◌<◌, slice_index}
+use Rattle.solution_pick.proofs.scans.first_yes.Given as goal
+
+abbrev pub invariant-loop-state : goal.invariant-loop-state
+invariant-loop-state l = (p : ℕ) → p < l.state → slice_index l.table.table.outs p ≡ 1 → ⊥

@@ -1,0 +1,101 @@
+//! The fixed solution of a canonical diagram: its least accepted word, shorter words first, then lower sign vectors, then letters.
+//! States are numbered by their least paths, so the first state whose output is yes has the least accepted path. Costs one look at
+//! each cell.
+
+ghost use Rattle.std.specs.Prelude.{◌≡◌, [], ◌∷◌, All, ◌^◌, ◌<◌, IfOk, IfNone, IfSome};
+ghost use Rattle.lash_model.specs.Acceptance.{accepts_word};
+ghost use Rattle.lash_model.specs.Lassos.{IsLasso};
+ghost use Rattle.canonical_laws.specs.Canonical.{IsCanonical};
+ghost use Rattle.digit_codes.specs.Reading.{lasso_of};
+ghost use Rattle.solution_pick.specs.Solutions.{AcceptsNothing, IsLeastAccepted};
+
+use crate::parents::parents_of;
+use crate::scans::first_yes;
+use crate::walking::{Trail, least_trail};
+use digit_codes::{Lasso, Word};
+use lash_io::Memory;
+use std::alloc::Global;
+use step_tables::{Plain, Table};
+use weak_min::Canon;
+
+/// The word of these letters.
+fn word_of(alloc: Global, letters: &[u32]) -> Result<Word, Memory>
+    ensures { IfOk result (λ w. w ≡ letters.now) }
+{
+    let mut word = Word::empty(alloc);
+    for letter in letters {
+        match word.push(*letter) {
+            Ok(()) => {}
+            Err(Memory) => return Err(Memory),
+        }
+    }
+    Ok(word)
+}
+
+/// The lasso of a whole number: its fraction is the letter 0 without end.
+fn whole_lasso(alloc: Global, sign: u32, letters: &[u32]) -> Result<Lasso, Memory>
+    ensures { IfOk result (λ x. lasso_of x ≡ record { sign = sign; whole = letters.now; stem = []; cycle = 0 ∷ [] }) }
+{
+    let whole = match word_of(alloc, letters) {
+        Ok(whole) => whole,
+        Err(Memory) => return Err(Memory),
+    };
+    let cycle = match word_of(alloc, &[0]) {
+        Ok(cycle) => cycle,
+        Err(Memory) => return Err(Memory),
+    };
+    Ok(Lasso {
+        sign,
+        whole,
+        stem: Word::empty(alloc),
+        cycle,
+    })
+}
+
+/// The solution of a table that is known to be canonical.
+fn solution_of(alloc: Global, table: &Table<Plain>) -> Result<Option<Lasso>, Memory>
+    requires { IsCanonical table.now.table }
+    ensures none { IfOk result (λ found. IfNone found (AcceptsNothing table.now.table)) }
+    ensures least { IfOk result (λ found. IfSome found (λ x. IsLeastAccepted table.now.table x.sign x.whole)) }
+    ensures range { IfOk result (λ found. IfSome found (λ x. IsLasso table.now.table.base table.now.table.tracks (lasso_of x))) }
+    ensures stem { IfOk result (λ found. IfSome found (λ x. x.stem ≡ [])) }
+    ensures cycle { IfOk result (λ found. IfSome found (λ x. x.cycle ≡ 0 ∷ [])) }
+{
+    let state = match first_yes(table) {
+        Some(state) => state,
+        None => return Ok(None),
+    };
+    let parents = match parents_of(alloc, table) {
+        Ok(parents) => parents,
+        Err(Memory) => return Err(Memory),
+    };
+    let Trail { sign, letters } = match least_trail(alloc, table, parents.as_slice(), state) {
+        Ok(trail) => trail,
+        Err(Memory) => return Err(Memory),
+    };
+    match whole_lasso(alloc, sign, letters.as_slice()) {
+        Ok(lasso) => Ok(Some(lasso)),
+        Err(Memory) => Err(Memory),
+    }
+}
+
+/// The fixed solution of a canonical diagram: a sign vector and a whole word that it accepts, such that none is less, by length,
+/// then sign vector, then letters; the fraction is zero. None exactly where it accepts nothing. Fails only for want of memory.
+pub fn solution(alloc: Global, canon: &Canon) -> Result<Option<Lasso>, Memory>
+    ensures none { IfOk result (λ found. IfNone found (AcceptsNothing canon.now.table)) }
+    ensures least { IfOk result (λ found. IfSome found (λ x. IsLeastAccepted canon.now.table x.sign x.whole)) }
+    ensures range { IfOk result (λ found. IfSome found (λ x. IsLasso canon.now.table.base canon.now.table.tracks (lasso_of x))) }
+    ensures stem { IfOk result (λ found. IfSome found (λ x. x.stem ≡ [])) }
+    ensures cycle { IfOk result (λ found. IfSome found (λ x. x.cycle ≡ 0 ∷ [])) }
+{
+    solution_of(alloc, canon.table())
+}
+
+/// Whether a canonical diagram accepts a lasso, which is in range: the output behind its sign vector and its whole word. A diagram
+/// does not look at the fraction. Takes no memory.
+pub fn member(canon: &Canon, lasso: &Lasso) -> bool
+    requires { IsLasso canon.now.table.base canon.now.table.tracks (lasso_of lasso.now) }
+    ensures { result ≡ accepts_word canon.now.table lasso.now.sign lasso.now.whole }
+{
+    canon.table().accepts(lasso)
+}
