@@ -1,0 +1,4 @@
+pub mod Weighing
+pub mod Adding
+pub mod Summing
+pub mod Valuing
