@@ -1,13 +1,13 @@
 -- Adding the coefficients of terms one after another: what is reached so far, and how much room is left.
-use Rattle.std.proofs.Common.{◌≡◌, ℕ, suc, ◌+◌, ◌*◌, ◌^◌, ◌≤◌, ◌<◌, List, [], ◌∷◌, length, drop, get_or, arith, refl, sym, ap, ◌∙◌, subst, unsigned_abs}
-use Rattle.std.proofs.Math.IntN.{ℤ, pos, ◌+ℤ◌, ◌*ℤ◌}
+use Rattle.std.proofs.Common.{◌≡◌, ℕ, ◌+◌, ◌*◌, ◌^◌, ◌≤◌, ◌<◌, List, [], ◌∷◌, length, drop, get_or, arith, refl, sym, ap, ◌∙◌, subst, unsigned_abs, nat_eq}
+use Rattle.std.proofs.Math.IntN.{ℤ, ◌+ℤ◌, ◌*ℤ◌}
 use Rattle.std.specs.List.{AllPairs, All}
 use Rattle.std.proofs.lemmas.List.{drop_more}
 use Rattle.lash_model.specs.Formulas.{Linear, coefficient_sum}
 use Rattle.formula_core.specs.Terms.{coefficient_at, added}
 use Rattle.term_substitution.specs.Substitution.{image, with_scaled, with_images}
 use Rattle.term_substitution.specs.Weights.{weight_at}
-use Rattle.term_substitution.proofs.Weighing.{product_weight, product_within, one_weight, nothing}
+use Rattle.term_substitution.proofs.Weighing.{sum_abs, coefficient_within, added_weight, where_less, product_weight, product_within, one_weight, nothing}
 
 Terms : Type 0
 Terms = List (ℕ × ℤ)
@@ -80,3 +80,13 @@ put_next terms places items into t rest then h is light = record {
 
 pub putting_next : (terms : List Linear) (places : ℕ) (items into : List (ℕ × ℤ)) (k : ℕ) (d : ℕ × ℤ) (then : List (ℕ × ℤ)) → k < length items → IsPutting terms places items into (drop k items) → then ≡ with_scaled into (get_or items k d).1 (image terms places (get_or items k d).0).terms → ((place : ℕ) → weight_at then place ≤ weight_at into place + unsigned_abs (get_or items k d).1 * 2 ^ 88) → IsPutting terms places items then (drop (k + 1) items)
 putting_next terms places items into k d then lt h is light = put_next terms places items into (get_or items k d) (drop (k + 1) items) then (subst (IsPutting terms places items into) (drop_more items k d lt) h) is light
+
+-- one coefficient alone is added
+pub moved_small : (into : List (ℕ × ℤ)) (a : ℤ) → ((at : ℕ) → weight_at into at + unsigned_abs a * 2 ^ 88 ≤ 2 ^ 113) → unsigned_abs a ≤ 2 ^ 114
+moved_small into a room = omega (arith, room 0)
+
+pub moved_fits : (into : List (ℕ × ℤ)) (place : ℕ) (a : ℤ) → ((at : ℕ) → weight_at into at + unsigned_abs a * 2 ^ 88 ≤ 2 ^ 113) → unsigned_abs (coefficient_at into place +ℤ a) ≤ 2 ^ 113
+moved_fits into place a room = omega (arith, sum_abs (coefficient_at into place) a, coefficient_within into place, room place)
+
+pub moved_weight : (into then : List (ℕ × ℤ)) (place : ℕ) (a : ℤ) → then ≡ added into place a → (at : ℕ) → weight_at then at ≤ weight_at into at + unsigned_abs a * 2 ^ 88
+moved_weight into then place a e at = rw e (omega (arith, added_weight into place a at, where_less (nat_eq place at) (unsigned_abs a)))

@@ -1,15 +1,14 @@
 -- What a formula says after terms were put for its variables is what it says of the terms' values.
-use Rattle.std.proofs.Common.{◌≡◌, ℕ, zero, suc, ◌+◌, ◌-◌, ◌*◌, ◌<◌, ◌≤◌, List, [], ◌∷◌, ◌++◌, length, map, get_or, arith, refl, sym, ap, ◌∙◌, subst, Bool, true, false, nat_lt, inl, inr}
+use Rattle.std.proofs.Common.{◌≡◌, ℕ, suc, ◌+◌, ◌-◌, ◌*◌, ◌<◌, List, [], ◌∷◌, ◌++◌, length, map, get_or, arith, refl, sym, ap, ◌∙◌, subst, nat_lt, inl, inr}
 use Rattle.std.proofs.Math.IntN.{ℤ, pos, ◌+ℤ◌, ◌-ℤ◌, ◌*ℤ◌}
 use Rattle.std.specs.List.{All}
 use Rattle.std.specs.Prelude.{◌≤ℤ◌, ◌↔◌}
 use Rattle.std.proofs.lemmas.Bool.{cond_both, ltb-true, ltb-false}
 use Rattle.std.proofs.lemmas.Int.{ints}
-use Rattle.std.proofs.lemmas.List.{get_or_append_left, get_or-append-add, get_or-append_right, get_or-map, length-map, append_assoc}
+use Rattle.std.proofs.lemmas.List.{get_or_append_left, get_or-append-add, get_or-append_right, get_or-map, length-map}
 use Rattle.integer_laws.specs.Differences.{diff}
 use Rattle.integer_laws.specs.Vectors.{scale}
-use Rattle.integer_laws.proofs.Ring.{by_diff, diff_same, diff_add, diff_sub, diff_mul, pos_diff, times_comm, times_assoc, times_sum, times_one, times_zero, sum_times}
-use Rattle.integer_laws.proofs.Entries.{scale-append}
+use Rattle.integer_laws.proofs.Ring.{by_diff, diff_same, diff_sub, diff_mul, pos_diff, times_comm, times_assoc, times_sum, times_one, times_zero, sum_times}
 use Rattle.lash_model.specs.Formulas.{Int, Real, Linear, Formula, Le, Eq, Not, And, Or, Exists}
 use Rattle.lash_model.specs.Meaning.{total, holds}
 use Rattle.lash_model.proofs.Totals.{total-scale}

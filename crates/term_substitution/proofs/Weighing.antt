@@ -1,5 +1,5 @@
 -- The weight of coefficients at one place, as coefficients are added.
-use Rattle.std.proofs.Common.{◌≡◌, ℕ, zero, suc, ◌+◌, ◌*◌, ◌≤◌, ◌<◌, List, [], ◌∷◌, length, get_or, arith, refl, sym, ap, ◌∙◌, cond, Bool, true, false, nat_eq, nat_lt, unsigned_abs}
+use Rattle.std.proofs.Common.{◌≡◌, ℕ, suc, ◌+◌, ◌*◌, ◌≤◌, ◌<◌, List, [], ◌∷◌, arith, refl, sym, ap, ◌∙◌, cond, Bool, true, false, nat_eq, nat_lt, unsigned_abs}
 use Rattle.std.proofs.Math.IntN.{ℤ, pos, ◌+ℤ◌, ◌*ℤ◌}
 use Rattle.std.specs.List.{AllPairs, All}
 use Rattle.std.specs.Ordering.{int_eq}
@@ -8,7 +8,7 @@ use Rattle.std.proofs.lemmas.Int.{ints, unsigned_abs-mul}
 use Rattle.formula_core.specs.Terms.{coefficient_at, in_front, added}
 use Rattle.term_substitution.specs.Weights.{where_it_is, weight_at}
 
-sum_abs : (a b : ℤ) → unsigned_abs (a +ℤ b) ≤ unsigned_abs a + unsigned_abs b
+pub sum_abs : (a b : ℤ) → unsigned_abs (a +ℤ b) ≤ unsigned_abs a + unsigned_abs b
 sum_abs a b = grind (arith, ints)
 
 -- a coefficient is within the weight at its place
@@ -42,6 +42,10 @@ added_weight (t ∷ ts) at c place = cond_both (nat_lt t.0 at) (t ∷ added ts a
     same : t.0 ≡ at → weight_at (in_front at (t.1 +ℤ c) ts) place ≤ weight_at (t ∷ ts) place + where_it_is (nat_eq at place) (unsigned_abs c)
     same q = omega (arith, front_weight at (t.1 +ℤ c) ts place, where_sum (nat_eq at place) _ _ _ (sum_abs t.1 c), ap (λ k. where_it_is (nat_eq k place) (unsigned_abs t.1)) q)
 
+pub where_less : (b : Bool) (n : ℕ) → where_it_is b n ≤ n
+where_less true n = omega arith
+where_less false n = omega arith
+
 where_times : (b : Bool) (m n : ℕ) → where_it_is b (m * n) ≡ m * where_it_is b n
 where_times true m n = refl
 where_times false m n = omega arith
@@ -68,17 +72,21 @@ product_within into a t ts =
 none_there : (ts : List (ℕ × ℤ)) (place : ℕ) → All (λ t. place < t.0) ts → weight_at ts place ≡ 0
 unfolding weight_at
 none_there [] place h = refl
-none_there (t ∷ ts) place h = rw (ne_eqb t.0 place (λ e. omega (arith, h 0 t (omega arith), e))) (none_there ts place (λ k d lt. h (suc k) d (omega arith)))
+none_there (t ∷ ts) place h =
+    let rec = none_there ts place (λ k d lt. h (suc k) d (omega arith)) in
+    rw (ne_eqb t.0 place (λ e. omega (arith, h 0 t (omega arith), e))) (omega (arith, rec))
 
 -- where places rise, the weight at a place is that of one coefficient
 pub one_weight : (ts : List (ℕ × ℤ)) (place bound : ℕ) → AllPairs (λ s t. s.0 < t.0) ts → All (λ t. unsigned_abs t.1 ≤ bound) ts → weight_at ts place ≤ bound
 unfolding weight_at
 one_weight [] place bound rising small = omega arith
-one_weight (t ∷ ts) place bound rising small = by_cases (nat_eq t.0 place) refl
+one_weight (t ∷ ts) place bound rising small =
+    let rec = one_weight ts place bound (λ i j d lt below. rising (suc i) (suc j) d (omega arith) (omega arith)) (λ k d lt. small (suc k) d (omega arith)) in
+    by_cases (nat_eq t.0 place) refl rec
   where
-    by_cases : (b : Bool) → nat_eq t.0 place ≡ b → where_it_is b (unsigned_abs t.1) + weight_at ts place ≤ bound
-    by_cases true e = let none : weight_at ts place ≡ 0 = none_there ts place (λ k d lt. omega (arith, eqb-true t.0 place e, rising 0 (suc k) d (omega arith) (omega arith))) in omega (arith, none, small 0 t (omega arith))
-    by_cases false e = one_weight ts place bound (λ i j d lt below. rising (suc i) (suc j) d (omega arith) (omega arith)) (λ k d lt. small (suc k) d (omega arith))
+    by_cases : (b : Bool) → nat_eq t.0 place ≡ b → weight_at ts place ≤ bound → where_it_is b (unsigned_abs t.1) + weight_at ts place ≤ bound
+    by_cases true e rec = let none : weight_at ts place ≡ 0 = none_there ts place (λ k d lt. omega (arith, eqb-true t.0 place e, rising 0 (suc k) d (omega arith) (omega arith))) in omega (arith, none, small 0 t (omega arith))
+    by_cases false e rec = omega (arith, rec)
 
 pub nothing : (place : ℕ) → weight_at [] place ≡ 0
 unfolding weight_at

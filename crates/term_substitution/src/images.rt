@@ -63,10 +63,14 @@ fn add_image(
 
 // Adds the coefficient of a variable at another place.
 fn add_moved(atom: &mut Linear, variable: &(u32, i128), place: u32) -> Result<(), Memory>
-    requires light { weight_at atom.old.terms place + unsigned_abs variable.now.1 ≤ 2 ^ 113 }
+    requires light { (at : ℕ) → weight_at atom.old.terms at + unsigned_abs variable.now.1 * 2 ^ 88 ≤ 2 ^ 113 }
     ensures added { OnOk result (atom.new ≡ record { terms = added atom.old.terms place variable.now.1; constant = atom.old.constant }) }
+    ensures light { OnOk result ((at : ℕ) → weight_at atom.new.terms at ≤ weight_at atom.old.terms at + unsigned_abs variable.now.1 * 2 ^ 88) }
 {
-    atom.add(place, variable.1)
+    match atom.add(place, variable.1) {
+        Ok(()) => Ok(()),
+        Err(error) => Err(error),
+    }
 }
 
 // Adds the coefficients of what the variables become, each times the variable's.

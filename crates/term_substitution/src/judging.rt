@@ -105,8 +105,16 @@ pub fn judge_atoms(
     ensures { IfOk result (λ p. AreAtomsJudged p (substituted (formula_of formula.now) terms.now places)) }
 {
     match formula {
-        Formula::Le(atom) | Formula::Eq(atom) => judge_atom(alloc, atom, terms, places),
-        Formula::Not(inner) | Formula::Exists(_, inner) => judge_atoms(alloc, inner, terms, places),
+        Formula::Le(atom) | Formula::Eq(atom) => match judge_atom(alloc, atom, terms, places) {
+            Ok(passed) => Ok(passed),
+            Err(error) => Err(error),
+        },
+        Formula::Not(inner) | Formula::Exists(_, inner) => {
+            match judge_atoms(alloc, inner, terms, places) {
+                Ok(passed) => Ok(passed),
+                Err(error) => Err(error),
+            }
+        }
         Formula::And(left, right) | Formula::Or(left, right) => {
             let one = match judge_atoms(alloc, left, terms, places) {
                 Ok(one) => one,
