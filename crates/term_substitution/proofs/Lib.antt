@@ -6,3 +6,4 @@ pub mod Valuing
 pub mod Magnitudes
 pub mod Reaching
 pub mod FirstLimits
+pub mod Beginning

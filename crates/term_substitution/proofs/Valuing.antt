@@ -128,13 +128,13 @@ means (Or f g) terms places ns zs d count over = let one = means f terms places 
 means (Exists Int f) terms places ns zs d count over =
     let vals = map (term_value ns d) terms in
     let rec : (m : ℤ) → holds (substituted f terms places) ((ns ++ zs) ++ (m *ℤ pos d) ∷ []) d ↔ holds f ((vals ++ zs) ++ (m *ℤ pos d) ∷ []) d = λ m.
-      through f (substituted f terms places) _ _ _ _ d (push_both ns zs (m *ℤ pos d)) (push_both vals zs (m *ℤ pos d)) (means f terms places ns (zs ++ (m *ℤ pos d) ∷ []) d count over) in
+    through f (substituted f terms places) _ _ _ _ d (push_both ns zs (m *ℤ pos d)) (push_both vals zs (m *ℤ pos d)) (means f terms places ns (zs ++ (m *ℤ pos d) ∷ []) d count over) in
     (λ h. (h.0, (rec h.0).0 h.1), λ h. (h.0, (rec h.0).1 h.1))
 means (Exists Real f) terms places ns zs d count over =
     let vals = map (term_value ns d) terms in
     let rec : (e : ℕ) (m : ℤ) → holds (substituted f terms places) (scale (suc e) (ns ++ zs) ++ m ∷ []) (suc e * d) ↔ holds f (scale (suc e) (vals ++ zs) ++ m ∷ []) (suc e * d) = λ e m.
-      through f (substituted f terms places) _ _ _ _ (suc e * d) (scale_both (suc e) ns zs m) (scale_both (suc e) vals zs m ∙ ap (λ xs. xs ++ (scale (suc e) zs ++ m ∷ [])) (sym (values_scaled (suc e) ns d terms)))
-        (means f terms places (scale (suc e) ns) (scale (suc e) zs ++ m ∷ []) (suc e * d) (length-scale (suc e) ns ∙ count) over) in
+    through f (substituted f terms places) _ _ _ _ (suc e * d) (scale_both (suc e) ns zs m) (scale_both (suc e) vals zs m ∙ ap (λ xs. xs ++ (scale (suc e) zs ++ m ∷ [])) (sym (values_scaled (suc e) ns d terms)))
+    (means f terms places (scale (suc e) ns) (scale (suc e) zs ++ m ∷ []) (suc e * d) (length-scale (suc e) ns ∙ count) over) in
     (λ h. (h.0, (h.1.0, (rec h.0 h.1.0).0 h.1.1)), λ h. (h.0, (h.1.0, (rec h.0 h.1.0).1 h.1.1)))
 
 append_none : (xs : List ℤ) → xs ++ [] ≡ xs

@@ -53,8 +53,8 @@ fn magnitude(term: &(u32, i128)) -> u128
     term.1.unsigned_abs()
 }
 
-// Whether the magnitudes of the coefficients sum to more than 2^24.
-fn great_coefficients(atom: &Linear) -> bool
+/// Whether the magnitudes of the coefficients sum to more than 2^24.
+pub fn great_coefficients(atom: &Linear) -> bool
     ensures { result ≡ coefficients_pass atom.now }
 {
     let mut sum: u128 = 0;
@@ -67,7 +67,8 @@ fn great_coefficients(atom: &Linear) -> bool
     false
 }
 
-fn great_constant(atom: &Linear) -> bool
+/// Whether the constant is more than 2^40 in magnitude.
+pub fn great_constant(atom: &Linear) -> bool
     ensures { result ≡ constant_passes atom.now }
 {
     atom.constant().unsigned_abs() > 1 << 40
