@@ -1,4 +1,4 @@
--- What is found of the atoms of a formula.
+-- What is found of the atoms of a formula (own).
 use Rattle.std.specs.Prelude.{◌≡◌, ◌||◌, Option, None, Some, if◌then◌else◌}
 use Rattle.lash_model.specs.Formulas.{Linear, Formula}
 use Rattle.term_substitution.specs.Limits.{coefficients_pass, constant_passes, some_atom}

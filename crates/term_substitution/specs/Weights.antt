@@ -1,6 +1,7 @@
--- How great the coefficients at one place are together.
+-- How great the coefficients at one place are together (own). It bounds each sum of coefficients while products are added.
 use Rattle.std.specs.Prelude.{ℕ, ◌+◌, List, [], ◌∷◌, Bool, true, false, nat_eq, ℤ, unsigned_abs}
 
+-- a number where the test holds, and 0 elsewhere
 abbrev pub where_it_is : Bool → ℕ → ℕ
 where_it_is true n = n
 where_it_is false n = 0

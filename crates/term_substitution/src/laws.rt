@@ -1,6 +1,6 @@
 //! Laws of substitution.
 
-ghost use Rattle.std.specs.Prelude.{◌≡◌, ◌<◌, ◌↔◌, ◌++◌, ℕ, List, All, length, map, ℤ};
+ghost use Rattle.std.specs.Prelude.{◌≡◌, ◌<◌, ◌↔◌, ℕ, List, All, length, map, ℤ};
 ghost use Rattle.lash_model.specs.Formulas.{Formula, Linear};
 ghost use Rattle.lash_model.specs.Meaning.{holds};
 ghost use Rattle.term_substitution.specs.Substitution.{substituted};
