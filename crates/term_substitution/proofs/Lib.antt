@@ -1,0 +1,9 @@
+pub mod Weighing
+pub mod Adding
+pub mod Summing
+pub mod Wrapping
+pub mod Valuing
+pub mod Magnitudes
+pub mod Reaching
+pub mod FirstLimits
+pub mod Beginning

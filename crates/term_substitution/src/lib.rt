@@ -1,0 +1,15 @@
+//! Substitution of linear terms for the free variables of formulas.
+#![tactic(auto)]
+
+mod errors;
+mod images;
+mod judging;
+mod laws;
+mod substitution;
+
+pub use errors::FormError;
+pub use laws::substitution_replaces_values;
+pub use substitution::subst;
+
+#[cfg(test)]
+mod tests;
