@@ -1,13 +1,15 @@
 -- What the parts of encoding and of reading back give, one to another.
-use Rattle.std.specs.Prelude.{◌≡◌, ◌≢◌, ℕ, ◌+◌, ◌-◌, ◌*◌, ◌/◌, ◌%◌, ◌^◌, ◌≤◌, ◌<◌, Bool, true, false, List, All, length, map, ℤ, pos, negsuc, neg_ℤ, ◌-ℤ◌, ◌*ℤ◌, ◌≤ℤ◌, unsigned_abs}
+use Rattle.std.specs.Prelude.{◌≡◌, ◌≢◌, ℕ, ◌+◌, ◌-◌, ◌*◌, ◌/◌, ◌%◌, ◌^◌, ◌≤◌, ◌<◌, Bool, true, false, List, All, length, map, take, drop, ◌++◌, slice_index, ◌==◌, ℤ, pos, negsuc, neg_ℤ, ◌-ℤ◌, ◌*ℤ◌, ◌≤ℤ◌, unsigned_abs}
 use Prim.Native.Nat.{◌∣◌}
 use Rattle.std.specs.Int.{IsGcd}
+use Rattle.std.specs.List.{count_by}
 use Rattle.fraction_codes.specs.Fractions.{floor, IsWholeTimes}
-use Rattle.fraction_codes.specs.LongDivision.{letters_of}
+use Rattle.fraction_codes.specs.LongDivision.{next_letter, next_rests, rests_after, letters_of}
 use Rattle.lash_model.specs.Words.{spelled}
 use Rattle.fraction_codes.specs.declared.ratio.Ratio.{Ratio}
 use Rattle.fraction_codes.specs.declared.returning.Turn.{Turn}
 use Rattle.fraction_codes.specs.declared.reading.Spelled.{Spelled}
+use Rattle.fraction_codes.specs.declared.text.Track.{Track}
 
 -- how far an integer is from the first of its sign, 0 or -1: its digits are those of this number, or their complements
 abbrev pub sign_distance : ℤ → ℕ
@@ -89,3 +91,33 @@ pub record IsLowest (z : ℤ) (den : ℕ) (v : Ratio) : Type 0 where
   pub positive : (pos 1) ≤ℤ v.den
   pub lowest : IsGcd (unsigned_abs v.num) (unsigned_abs v.den) 1
   pub same : v.num *ℤ pos den ≡ z *ℤ v.den
+
+-- the first i of the remainders were divided once more, with the letter of their quotients
+pub record IsDivided (r d : ℕ) (old now : List ℕ) (i letter : ℕ) : Type 0 where
+  pub letter_is : letter ≡ next_letter r d (take i old)
+  pub done : take i now ≡ next_rests r d (take i old)
+  pub left : drop i now ≡ drop i old
+  pub count : length now ≡ length old
+
+-- some steps of a long division were made, and `rest` are left: the letters so far and those to come are all letters
+pub record IsUnderWay (r d steps : ℕ) (old now word : List ℕ) (rest : ℕ) : Type 0 where
+  pub letters : word ++ letters_of r d rest now ≡ letters_of r d steps old
+  pub rests : rests_after r d rest now ≡ rests_after r d steps old
+  pub count : length now ≡ length old
+  pub below : All (λ p. p < d) now
+
+-- the marks of the powers of r over d that were met before place k: one more than the first place of each, and 0 elsewhere
+pub record AreMarks (r d k power : ℕ) (marks : List ℕ) : Type 0 where
+  pub count : length marks ≡ d
+  pub power_is : power ≡ r ^ k % d
+  pub marked : (j : ℕ) → j < k → slice_index marks (r ^ j % d) ≡ j + 1
+  pub met : (v j : ℕ) → v < d → slice_index marks v ≡ j + 1 → (j < k) × (r ^ j % d ≡ v)
+  pub unmarked : k + count_by (λ m. m == 0) marks ≡ d
+
+-- one of the tracks, in a base from 2 to 16
+pub record IsTrack (t : Track) : Type 0 where
+  pub radix : t.radix ≡ t.base
+  pub low : 2 ≤ t.base
+  pub high : t.base ≤ 16
+  pub track : t.track < t.tracks
+  pub few : t.base ^ t.tracks ≤ 4096

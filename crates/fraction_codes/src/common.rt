@@ -4,7 +4,7 @@ ghost use Rattle.std.specs.Prelude.{◌≡◌, ℕ, ◌+◌, ◌*◌, ◌^◌, �
 ghost use Rattle.fraction_codes.specs.Fractions.{IsSmall, IsCommonDenominator, IsTooFine};
 ghost use Rattle.fraction_codes.specs.Steps.{IsGreatestDivisor, IsLeastMultiple, IsReduced};
 
-use crate::parts::denominator;
+use crate::parts::{denominator, num_magnitude};
 use crate::ratio::Ratio;
 
 /// The greatest least common denominator of a vector that has a code.
@@ -32,7 +32,7 @@ fn reduced_denominator(value: &Ratio) -> u128
     ensures { IsReduced value.now result }
 {
     let den = denominator(value);
-    den / greatest_divisor(value.num.unsigned_abs(), den)
+    den / greatest_divisor(num_magnitude(value), den)
 }
 
 /// The least common multiple of two positive numbers, the first at most 65,536 and the second at most 2 ^ 100.

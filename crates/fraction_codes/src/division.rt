@@ -43,7 +43,7 @@ pub(crate) fn divide_on(
     ensures below { All (λ p. p < divisor) rests.new }
 {
     let mut word = Word::empty(alloc);
-    for _ in 0..steps {
+    for _step in 0..steps {
         word.push(divide_once(radix, divisor, rests))?;
     }
     Ok(word)

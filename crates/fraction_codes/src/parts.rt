@@ -20,6 +20,14 @@ pub(crate) fn denominator(value: &Ratio) -> u128
     value.den.unsigned_abs()
 }
 
+/// The magnitude of the numerator.
+pub(crate) fn num_magnitude(value: &Ratio) -> u128
+    requires { IsSmall value.now }
+    ensures { result ≡ unsigned_abs value.now.num }
+{
+    value.num.unsigned_abs()
+}
+
 /// The distance of the numerator from the first integer of its sign.
 fn num_distance(value: &Ratio) -> u128
     requires { IsSmall value.now }
@@ -60,6 +68,7 @@ fn above_floor(value: &Ratio) -> u128
 /// What is above the floor, times a divisor by which the fraction becomes an integer.
 fn first_rest(value: &Ratio, divisor: u32) -> u128
     requires small { IsSmall value.now }
+    requires positive { 0 < divisor }
     requires divisor { divisor ≤ 65536 }
     requires whole { IsWholeTimes divisor value.now }
     ensures value { result ≡ first_rest divisor value.now }
@@ -90,6 +99,7 @@ pub(crate) fn first_rests(
     divisor: u32,
 ) -> Result<Vec<u128>, Memory>
     requires small { All IsSmall values.now }
+    requires positive { 0 < divisor }
     requires divisor { divisor ≤ 65536 }
     requires whole { All (IsWholeTimes divisor) values.now }
     ensures value { IfOk result (λ v. v.items ≡ map (first_rest divisor) values.now) }

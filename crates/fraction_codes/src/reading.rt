@@ -61,7 +61,7 @@ fn is_short(radix: u32, lasso: &Lasso) -> bool
     let stem = lasso.stem.letters().len() as u128;
     let cycle = lasso.cycle.letters().len() as u128;
     let mut power: u128 = 1;
-    for _ in 0..whole + stem + cycle {
+    for _place in 0..whole + stem + cycle {
         power *= u128::from(radix);
         if power > MAX_POWER {
             return false;
