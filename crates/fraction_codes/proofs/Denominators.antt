@@ -54,11 +54,11 @@ pub common_none : IsCommonDenominator [] 1
 common_none = record { positive = omega arith; clears = All-nil (IsWholeTimes 1); least = λ k all. one-dvd k }
 
 -- what is true of all and of one more
-record Parted (P : Ratio → Type 0) (vs : List Ratio) (v : Ratio) : Type 0 where
+pub record Parted (P : Ratio → Type 0) (vs : List Ratio) (v : Ratio) : Type 0 where
   pub front : All P vs
   pub last : P v
 
-parted : (P : Ratio → Type 0) (vs : List Ratio) (v : Ratio) → All P (vs ++ v ∷ []) → Parted P vs v
+pub parted : (P : Ratio → Type 0) (vs : List Ratio) (v : Ratio) → All P (vs ++ v ∷ []) → Parted P vs v
 parted P [] v h = record { front = All-nil P; last = All-head P v [] h }
 parted P (w ∷ vs) v h = let rest = parted P vs v (All-tail P w (vs ++ v ∷ []) h) in record { front = All-cons P w vs (All-head P w (vs ++ v ∷ []) h) rest.front; last = rest.last }
 

@@ -9,6 +9,7 @@ use std::alloc::Global;
 
 /// One step: the letter of the quotients, with the next remainders in the place of the last.
 fn divide_once(radix: u32, divisor: u128, rests: &mut [u128]) -> u32
+    requires low { 2 ≤ radix }
     requires high { radix ≤ 16 }
     requires divisor { divisor ≤ 2 ^ 104 }
     requires below { All (λ p. p < divisor) rests.old }
@@ -34,6 +35,7 @@ pub(crate) fn divide_on(
     rests: &mut [u128],
     steps: u32,
 ) -> Result<Word, Memory>
+    requires low { 2 ≤ radix }
     requires high { radix ≤ 16 }
     requires divisor { divisor ≤ 2 ^ 104 }
     requires below { All (λ p. p < divisor) rests.old }

@@ -88,7 +88,7 @@ fn whole_length(radix: u32, values: &[Ratio]) -> u32
     ensures count { IsFloorCount radix values.now result }
     ensures small { radix ^ result ≤ 2 ^ 104 }
 {
-    let mut length = 0;
+    let mut length: u32 = 0;
     for value in values {
         length = length.max(digit_count(radix, floor_distance(value)));
     }
