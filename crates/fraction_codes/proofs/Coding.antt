@@ -1,5 +1,5 @@
 -- The parts of an encoding make the fixed code, and its vector is the given one.
-use Rattle.std.proofs.Common.{◌≡◌, ℕ, zero, suc, ◌+◌, ◌-◌, ◌*◌, ◌/◌, ◌^◌, ◌≤◌, ◌<◌, List, [], ◌∷◌, length, map, get_or, Option, Some, None, arith, refl, ◌∙◌, sym, ap, subst}
+use Rattle.std.proofs.Common.{◌≡◌, ℕ, zero, suc, ◌+◌, ◌-◌, ◌*◌, ◌^◌, ◌≤◌, ◌<◌, List, [], ◌∷◌, length, map, get_or, Some, arith, refl, ◌∙◌, sym, ap, subst}
 use Rattle.std.proofs.Math.IntN.{ℤ, pos, negsuc, ◌+ℤ◌, ◌-ℤ◌, ◌*ℤ◌}
 use Rattle.std.specs.Prelude.{All, slice_get, ◌≤ℤ◌, unsigned_abs}
 use Rattle.std.proofs.Math.Nat.{eq_of_mul-eq-mul_right}
@@ -9,7 +9,7 @@ use Rattle.std.proofs.lemmas.List.Elements.{All-weaker, All-map}
 use Rattle.integer_laws.proofs.Ring.{diff_same, diff_add, diff_mul, pos_diff, by_diff}
 use Rattle.lash_model.specs.Letters.{number, AreDigits, digit, sign_bit}
 use Rattle.lash_model.specs.Words.{spelled, value}
-use Rattle.lash_model.specs.Lassos.{Lasso, IsLasso, denominator, numerator}
+use Rattle.lash_model.specs.Lassos.{Lasso, denominator, numerator}
 use Rattle.lash_model.proofs.Digits.{digits-number, power_positive}
 use Rattle.fraction_codes.specs.declared.ratio.Ratio.{Ratio}
 use Rattle.fraction_codes.specs.declared.returning.Turn.{Turn}
@@ -18,7 +18,7 @@ use Rattle.fraction_codes.specs.FixedCodes.{IsWithin, IsFixedCode, SpellsVector,
 use Rattle.fraction_codes.specs.LongDivision.{rests_after, letters_of, IsFirstMetAgain}
 use Rattle.fraction_codes.specs.Steps.{IsPowerTurn, IsFloorCount, IsWholeWord, sign_distance, raised}
 use Rattle.fraction_codes.proofs.Counting.{sign_bits_below, signs_below}
-use Rattle.fraction_codes.proofs.Flooring.{floor_sign, IsInside, inside_is, distance_inside, lowered, raised_below, floor_parts, above_below}
+use Rattle.fraction_codes.proofs.Flooring.{floor_sign, inside_is, distance_inside, lowered, raised_below, floor_parts, above_below}
 use Rattle.fraction_codes.proofs.LongRuns.{length-letters_of, rests_add, length-rests_after, rests_below, letters_below, long_is, power_spells}
 use Rattle.fraction_codes.proofs.Meeting.{first_rest_times, met_is}
 

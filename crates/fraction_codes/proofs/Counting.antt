@@ -1,18 +1,18 @@
 -- How many digits floors need, and sign vectors.
-use Rattle.std.proofs.Common.{◌≡◌, ℕ, zero, suc, ◌+◌, ◌-◌, ◌*◌, ◌^◌, ◌≤◌, ◌<◌, max, List, [], ◌∷◌, ◌++◌, length, map, take, get_or, arith, refl, ◌∙◌, sym, ap, subst}
+use Rattle.std.proofs.Common.{◌≡◌, ℕ, ◌+◌, ◌-◌, ◌*◌, ◌^◌, ◌≤◌, ◌<◌, max, List, [], length, map, take, get_or, arith, refl, ◌∙◌, sym, ap, subst}
 use Rattle.std.specs.Prelude.{All}
 use mathlib.Core.Logic.{◌⊎◌, inl, inr}
 use Rattle.std.proofs.Math.IntN.{ℤ, pos, negsuc}
 use Rattle.std.proofs.Math.Nat.{pow-le-pow_left, pow-le-pow_right}
 use Rattle.std.proofs.lemmas.Bool.{cases_lt}
 use Rattle.std.proofs.lemmas.List.{map_more, take_more, length-map, length-take-le}
-use Rattle.std.proofs.lemmas.List.Elements.{All-nil, All-push, All-weaker, All-map}
+use Rattle.std.proofs.lemmas.List.Elements.{All-push, All-weaker, All-map}
 use Rattle.lash_model.specs.Letters.{number}
 use Rattle.lash_model.proofs.Digits.{number_below}
 use Rattle.fraction_codes.specs.declared.ratio.Ratio.{Ratio}
 use Rattle.fraction_codes.specs.Fractions.{sign_of, floor}
 use Rattle.fraction_codes.specs.Steps.{IsDigitCount, IsFloorCount, sign_distance}
-use Rattle.fraction_codes.proofs.Denominators.{Parted, parted}
+use Rattle.fraction_codes.proofs.Denominators.{parted}
 use Rattle.fraction_codes.proofs.Digits.{number-push, shorter_few}
 
 -- a power of the base within 2 ^ 104 has a small exponent

@@ -1,5 +1,5 @@
 -- Common denominators: the denominator in lowest terms, one fraction more, and that there is one for each vector.
-use Rattle.std.proofs.Common.{◌≡◌, ℕ, suc, ◌+◌, ◌*◌, ◌/◌, ◌^◌, ◌≤◌, ◌<◌, List, [], ◌∷◌, ◌++◌, length, take, drop, get_or, arith, ◌∙◌, sym, ap, subst, append_assoc}
+use Rattle.std.proofs.Common.{◌≡◌, ℕ, ◌+◌, ◌*◌, ◌/◌, ◌^◌, ◌≤◌, ◌<◌, List, [], ◌∷◌, ◌++◌, length, take, drop, get_or, arith, ◌∙◌, sym, ap, subst, append_assoc}
 use Rattle.std.proofs.Math.IntN.{ℤ, pos, negsuc}
 use Rattle.std.specs.Prelude.{All, ◌≤ℤ◌, unsigned_abs}
 use Prim.Native.Nat.{◌∣◌}

@@ -1,11 +1,11 @@
 -- Digits of letters: each is below the base, and there are no more sign vectors than letters.
-use Rattle.std.proofs.Common.{◌≡◌, ℕ, zero, suc, ◌+◌, ◌-◌, ◌*◌, ◌/◌, ◌%◌, ◌^◌, ◌≤◌, ◌<◌, List, [], ◌∷◌, ◌++◌, length, map, take, drop, get_or, arith, add-one, refl, ◌∙◌, sym, ap, subst}
+use Rattle.std.proofs.Common.{◌≡◌, ℕ, ◌+◌, ◌-◌, ◌*◌, ◌/◌, ◌%◌, ◌^◌, ◌≤◌, ◌<◌, List, [], ◌∷◌, ◌++◌, length, take, drop, get_or, arith, add-one, ◌∙◌, sym, ap, subst}
 use Rattle.std.proofs.Math.Nat.{pow-suc, pow-zero, pow-le-pow_left, pow-le-pow_right}
 use Rattle.std.proofs.lemmas.Nat.{mod_below}
 use Rattle.std.proofs.lemmas.List.{map_more, map-append, length_push, take-append-drop}
 use Rattle.fraction_codes.specs.DigitText.{digit_code, letter_text, word_text}
 use Rattle.lash_model.specs.Letters.{number, digit, sign_bit}
-use Rattle.lash_model.proofs.Digits.{digit-quotient, power_positive}
+use Rattle.lash_model.proofs.Digits.{digit-quotient}
 
 pub digit_below : (r n i l : ℕ) → 0 < r → i < n → l < r ^ n → digit r n i l < r
 digit_below r n i l h k lt = subst (λ d. d < r) (sym (digit-quotient r n i l h k lt)) (mod_below (l / r ^ (n - (i + 1))) r h)

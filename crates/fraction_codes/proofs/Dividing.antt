@@ -1,10 +1,9 @@
 -- The loops of a long division: one remainder more, and one step more.
-use Rattle.std.proofs.Common.{◌≡◌, ℕ, zero, suc, ◌+◌, ◌-◌, ◌*◌, ◌/◌, ◌%◌, ◌^◌, ◌≤◌, ◌<◌, List, [], ◌∷◌, ◌++◌, length, map, take, drop, get_or, set, arith, refl, ◌∙◌, sym, ap, subst, append_assoc}
+use Rattle.std.proofs.Common.{◌≡◌, ℕ, suc, ◌+◌, ◌-◌, ◌*◌, ◌/◌, ◌%◌, ◌^◌, ◌≤◌, ◌<◌, List, [], ◌∷◌, ◌++◌, length, map, take, drop, get_or, set, arith, refl, ◌∙◌, sym, ap, subst, append_assoc}
 use Rattle.std.specs.Prelude.{All}
 use Rattle.std.proofs.lemmas.List.{length-map, length-set, length-take-le, map_more, take_more_set, drop-set-lt, drop-drop, get_or-drop, take_all, append-nil}
 use Rattle.std.proofs.lemmas.List.Elements.{All-same, All-take}
 use Rattle.lash_model.specs.Letters.{number}
-use Rattle.lash_model.proofs.Digits.{number_below}
 use Rattle.fraction_codes.specs.LongDivision.{next_letter, next_rests, rests_after, letters_of}
 use Rattle.fraction_codes.specs.Steps.{IsDivided, IsUnderWay}
 use Rattle.fraction_codes.proofs.Digits.{number-push, shorter_few}

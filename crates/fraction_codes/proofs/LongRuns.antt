@@ -1,12 +1,12 @@
 -- Long division of several numbers in step: its letters are in range, and so many steps give the digits of the quotient by the
 -- divisor.
-use Rattle.std.proofs.Common.{◌≡◌, ℕ, zero, suc, ◌+◌, ◌-◌, ◌*◌, ◌/◌, ◌%◌, ◌^◌, ◌≤◌, ◌<◌, List, [], ◌∷◌, length, map, get_or, arith, refl, ◌∙◌, sym, ap, subst}
+use Rattle.std.proofs.Common.{◌≡◌, ℕ, zero, suc, ◌+◌, ◌*◌, ◌/◌, ◌%◌, ◌^◌, ◌<◌, List, length, map, get_or, arith, refl, ◌∙◌, sym, ap, subst}
 use Rattle.std.specs.Prelude.{All}
 use Rattle.std.proofs.Math.Nat.{pow-suc, pow-zero}
 use Rattle.std.proofs.lemmas.Nat.{div-add-mod', div_below, mod_below, same_from_place}
 use Rattle.std.proofs.lemmas.List.{length-map, get_or-map}
 use Rattle.std.proofs.lemmas.List.Elements.{All-nil, All-cons, All-map, All-weaker}
-use Rattle.lash_model.specs.Letters.{number, AreDigits, digit}
+use Rattle.lash_model.specs.Letters.{AreDigits, digit}
 use Rattle.lash_model.specs.Words.{spelled}
 use Rattle.lash_model.proofs.Digits.{digits-number, number_below}
 use Rattle.fraction_codes.specs.LongDivision.{next_letter, next_rests, rests_after, letters_of}

@@ -1,6 +1,6 @@
 -- A fraction in lowest terms: both parts over their greatest common divisor.
-use Rattle.std.proofs.Common.{◌≡◌, ℕ, zero, suc, ◌+◌, ◌*◌, ◌/◌, ◌≤◌, ◌<◌, Bool, true, false, arith, refl, ◌∙◌, sym, ap, subst}
-use Rattle.std.proofs.Math.IntN.{ℤ, pos, negsuc, neg_ℤ, ◌*ℤ◌}
+use Rattle.std.proofs.Common.{◌≡◌, ℕ, zero, suc, ◌*◌, ◌/◌, ◌<◌, Bool, true, false, arith, refl, ◌∙◌, sym, ap, subst}
+use Rattle.std.proofs.Math.IntN.{ℤ, pos, neg_ℤ, ◌*ℤ◌}
 use Rattle.std.specs.Prelude.{◌≤ℤ◌, unsigned_abs}
 use Rattle.std.specs.Int.{IsGcd}
 use Prim.Native.Nat.{◌∣◌}
@@ -24,7 +24,10 @@ abs_signed true zero = refl
 abs_signed true (suc m) = refl
 
 signed_times : (negative : Bool) (g p y : ℕ) → signed negative p *ℤ pos (g * y) ≡ signed negative (g * p) *ℤ pos y
-signed_times false g p y = simp (pos_diff, diff_mul) (diff_same _ _ _ _ (omega arith))
+signed_times false g p y = ap pos (regroup g p y)
+  where
+    regroup : (g p y : ℕ) → p * (g * y) ≡ g * p * y
+    regroup g p y = omega arith
 signed_times true g p y = ap (λ z. z *ℤ pos (g * y)) (neg_pos_diff p) ∙ by g p y ∙ ap (λ z. z *ℤ pos y) (sym (neg_pos_diff (g * p)))
   where
     by : (g p y : ℕ) → diff 0 p *ℤ pos (g * y) ≡ diff 0 (g * p) *ℤ pos y

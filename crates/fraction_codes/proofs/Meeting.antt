@@ -5,7 +5,7 @@ use mathlib.Core.Logic.{◌⊎◌, inl, inr}
 use Prim.Native.Nat.{◌∣◌}
 use Rattle.std.proofs.Math.Nat.{mul-sub, mul-add-mod_self_left, add-mul-mod_self_left, mod-eq_of_lt, eq_of_mul-eq-mul_right, pow-le-pow_right}
 use Rattle.std.proofs.lemmas.Bool.{cases_lt}
-use Rattle.std.proofs.lemmas.Nat.{div-add-mod', mul-mod_first, mul-mod_second, pow-add}
+use Rattle.std.proofs.lemmas.Nat.{div-add-mod', mul-mod_first, pow-add}
 use Rattle.std.proofs.lemmas.List.{ext_get_or, get_or-map, length-map}
 use Rattle.fraction_codes.specs.declared.ratio.Ratio.{Ratio}
 use Rattle.fraction_codes.specs.declared.returning.Turn.{Turn}

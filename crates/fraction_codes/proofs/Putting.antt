@@ -1,5 +1,5 @@
 -- Steps of writing through a block: puts that went well, then one that failed.
-use Rattle.std.proofs.Common.{◌≡◌, ℕ, List, [], ◌++◌, Option, Result, Ok, Err, subst, append_assoc, sym}
+use Rattle.std.proofs.Common.{◌≡◌, ℕ, List, [], ◌++◌, Option, Result, Ok, Err, subst, append_assoc}
 use Rattle.std.specs.Result.{IsErr}
 use Rattle.lash_io.specs.Sinks.{HoldsPart, Puts}
 use Rattle.lash_io.specs.Blocks.{Moves, Passes}

@@ -1,5 +1,5 @@
 -- The powers of the base, over the divisor: marks of those that were met, and the first that is met again.
-use Rattle.std.proofs.Common.{◌≡◌, ◌≢◌, ℕ, zero, suc, ◌+◌, ◌-◌, ◌*◌, ◌/◌, ◌%◌, ◌^◌, ◌≤◌, ◌<◌, ◌==◌, List, length, get_or, set, cond, add-one, arith, refl, ◌∙◌, sym, ap, subst}
+use Rattle.std.proofs.Common.{◌≡◌, ◌≢◌, ℕ, zero, suc, ◌+◌, ◌-◌, ◌*◌, ◌%◌, ◌^◌, ◌≤◌, ◌<◌, ◌==◌, List, length, get_or, set, cond, add-one, arith, refl, ◌∙◌, sym, ap}
 use Rattle.std.specs.Prelude.{slice_index}
 use Rattle.std.specs.List.{count_by}
 use mathlib.Core.Logic.{◌⊎◌, inl, inr}
@@ -9,7 +9,6 @@ use Rattle.std.proofs.lemmas.Bool.Decides.{nat_tests}
 use Rattle.std.proofs.lemmas.Nat.{mul-mod_first, mod_below}
 use Rattle.std.proofs.lemmas.List.{length-set, get_or-set_same, get_or-set_other}
 use Rattle.std.proofs.lemmas.List.Sums.{sum_by-set}
-use Rattle.fraction_codes.specs.declared.returning.Turn.{Turn}
 use Rattle.fraction_codes.specs.Steps.{AreMarks, IsPowerTurn}
 
 -- 1 for what is not marked

@@ -1,5 +1,5 @@
 -- The one code of a vector of fractions that is written.
-use Rattle.std.specs.Prelude.{◌≡◌, ℕ, ◌*◌, ◌/◌, ◌^◌, ◌≤◌, List, All, map, length, Option, Some, slice_get, ℤ, pos, ◌-ℤ◌, ◌*ℤ◌, ◌≤ℤ◌, ◌<ℤ◌, unsigned_abs}
+use Rattle.std.specs.Prelude.{◌≡◌, ℕ, ◌*◌, ◌/◌, ◌^◌, ◌≤◌, List, All, map, length, Some, slice_get, pos, ◌-ℤ◌, ◌*ℤ◌, ◌≤ℤ◌, ◌<ℤ◌, unsigned_abs}
 use Rattle.lash_model.specs.Letters.{sign_bit}
 use Rattle.lash_model.specs.Words.{value}
 use Rattle.lash_model.specs.Lassos.{Lasso, IsLasso, denominator, numerator}

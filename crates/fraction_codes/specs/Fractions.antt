@@ -1,5 +1,5 @@
 -- Vectors of fractions: floors, what stands above them, and the denominator that all have in common.
-use Rattle.std.specs.Prelude.{◌≡◌, ℕ, ◌*◌, ◌^◌, ◌≤◌, ◌<◌, List, All, ℤ, pos, negsuc, ◌≤ℤ◌, unsigned_abs}
+use Rattle.std.specs.Prelude.{ℕ, ◌*◌, ◌^◌, ◌≤◌, ◌<◌, List, All, ℤ, pos, negsuc, ◌≤ℤ◌, unsigned_abs}
 use Rattle.std.specs.Int.{int_div_euclid, int_rem_euclid}
 use Prim.Native.Nat.{◌∣◌}
 use Rattle.fraction_codes.specs.declared.ratio.Ratio.{Ratio}

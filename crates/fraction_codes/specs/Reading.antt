@@ -1,5 +1,5 @@
 -- Fractions read back from lassos.
-use Rattle.std.specs.Prelude.{◌≡◌, ℕ, ℤ, pos, ◌*ℤ◌, ◌≤ℤ◌, unsigned_abs}
+use Rattle.std.specs.Prelude.{◌≡◌, ℕ, pos, ◌*ℤ◌, ◌≤ℤ◌, unsigned_abs}
 use Rattle.std.specs.Int.{IsGcd}
 use Rattle.lash_model.specs.Lassos.{Lasso, denominator, numerator}
 use Rattle.fraction_codes.specs.declared.ratio.Ratio.{Ratio}

@@ -38,12 +38,7 @@ pub fn encode(alloc: Global, base: Base, values: &[Ratio]) -> Result<Lasso, Code
 }
 
 /// The fixed code of a vector over its least common denominator.
-fn encode_over(
-    alloc: Global,
-    radix: u32,
-    divisor: u32,
-    values: &[Ratio],
-) -> Result<Lasso, Memory>
+fn encode_over(alloc: Global, radix: u32, divisor: u32, values: &[Ratio]) -> Result<Lasso, Memory>
     requires low { 2 ≤ radix }
     requires high { radix ≤ 16 }
     requires few { radix ^ length values.now ≤ 4096 }

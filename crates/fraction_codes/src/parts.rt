@@ -58,11 +58,7 @@ fn above_floor(value: &Ratio) -> u128
 {
     let den = denominator(value);
     let left = num_distance(value) % den;
-    if value.num < 0 {
-        den - 1 - left
-    } else {
-        left
-    }
+    if value.num < 0 { den - 1 - left } else { left }
 }
 
 /// What is above the floor, times a divisor by which the fraction becomes an integer.
@@ -116,11 +112,7 @@ pub(crate) fn first_rests(
 }
 
 /// The floors, the negative ones moved up by the power.
-pub(crate) fn whole_rests(
-    alloc: Global,
-    values: &[Ratio],
-    power: u128,
-) -> Result<Vec<u128>, Memory>
+pub(crate) fn whole_rests(alloc: Global, values: &[Ratio], power: u128) -> Result<Vec<u128>, Memory>
     requires small { All IsSmall values.now }
     requires room { All (λ v. sign_distance (floor v) < power) values.now }
     ensures value { IfOk result (λ v. v.items ≡ map (λ v. raised power (floor v)) values.now) }

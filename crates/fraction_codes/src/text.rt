@@ -163,7 +163,11 @@ fn put_letter<K: Sink>(
     ensures count { K.faults sink.old ≤ K.faults sink.new }
     ensures cause { OnErr result (IsFaultCounted (K.faults sink.old) (K.faults sink.new)) }
 {
-    put_digit(block, sink, letter_digit(place.base, place.tracks, letter, place.track))
+    put_digit(
+        block,
+        sink,
+        letter_digit(place.base, place.tracks, letter, place.track),
+    )
 }
 
 /// Puts a digit below 16.

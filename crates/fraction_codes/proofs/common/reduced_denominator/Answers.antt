@@ -1,5 +1,3 @@
-
-
 use Rattle.fraction_codes.proofs.Denominators.{reduced_from}
 use Rattle.fraction_codes.proofs.common.reduced_denominator.Goals as goal
 

@@ -1,5 +1,5 @@
 -- One remainder more was divided.
-use Rattle.std.proofs.Common.{◌≡◌, ◌+◌, ◌*◌, ◌/◌, ◌<◌, ◌≤◌, ◌^◌, get_or, arith}
+use Rattle.std.proofs.Common.{◌^◌, get_or, arith}
 use Rattle.std.proofs.lemmas.Nat.{mul-le}
 use Rattle.fraction_codes.proofs.Dividing.{divided_none, divided_below, divided_more, divided_small, divided_stays_below}
 use Rattle.fraction_codes.proofs.LongRuns.{quotient_below}

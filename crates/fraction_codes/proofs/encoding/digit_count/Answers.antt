@@ -1,4 +1,4 @@
-use Rattle.std.proofs.Common.{◌≡◌, ◌≤◌, ◌<◌, ◌^◌, arith, subst, sym}
+use Rattle.std.proofs.Common.{◌≤◌, ◌<◌, ◌^◌, arith}
 use Rattle.lash_model.proofs.Digits.{power_positive}
 use Rattle.fraction_codes.proofs.Counting.{few_digits, lessened}
 use Rattle.fraction_codes.proofs.encoding.digit_count.Goals as goal

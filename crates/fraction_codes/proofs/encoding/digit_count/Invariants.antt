@@ -1,5 +1,5 @@
 -- No fewer digits are enough than were counted so far.
-use Rattle.std.proofs.Common.{◌≡◌, ℕ, ◌+◌, ◌-◌, ◌*◌, ◌^◌, ◌<◌, ◌≤◌}
+use Rattle.std.proofs.Common.{◌≡◌, ℕ, ◌+◌, ◌-◌, ◌^◌, ◌<◌, ◌≤◌}
 use Rattle.fraction_codes.proofs.encoding.digit_count.Given as goal
 
 abbrev pub invariant-loop-power : goal.invariant-loop-power

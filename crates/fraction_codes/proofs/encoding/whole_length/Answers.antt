@@ -1,5 +1,5 @@
-use Rattle.std.proofs.Common.{◌≡◌, ◌≤◌, ◌^◌, ℕ, max, subst, sym, arith}
-use Rattle.fraction_codes.specs.Steps.{IsDigitCount, IsFloorCount}
+use Rattle.std.proofs.Common.{ℕ, subst}
+use Rattle.fraction_codes.specs.Steps.{IsDigitCount}
 use Rattle.fraction_codes.proofs.Counting.{floor_count_more, max_small}
 use Rattle.fraction_codes.proofs.encoding.whole_length.Goals as goal
 

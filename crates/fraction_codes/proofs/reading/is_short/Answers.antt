@@ -1,4 +1,4 @@
-use Rattle.std.proofs.Common.{◌+◌, ◌*◌, ◌^◌, ◌≤◌, ◌<◌, length, ap, arith, subst}
+use Rattle.std.proofs.Common.{◌+◌, ◌<◌, length, ap, arith}
 use Rattle.fraction_codes.proofs.ReadingOn.{longer_passes}
 use Rattle.fraction_codes.proofs.reading.is_short.Goals as goal
 

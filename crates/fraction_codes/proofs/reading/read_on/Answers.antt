@@ -1,5 +1,5 @@
 -- One letter more was read.
-use Rattle.std.proofs.Common.{◌≡◌, ◌<◌, ◌≤◌, ◌*◌, ◌^◌, ◌+◌, get_or, arith, rules}
+use Rattle.std.proofs.Common.{◌<◌, ◌^◌, get_or, arith}
 use Rattle.lash_model.specs.Letters.{digit}
 use Rattle.fraction_codes.proofs.Digits.{digit_below}
 use Rattle.fraction_codes.proofs.ReadingOn.{read_none, read_more, read_room, read_small}

@@ -1,9 +1,9 @@
 -- The three words in turn: their room, what is gained, and the fraction in lowest terms.
-use Rattle.std.proofs.Common.{◌≡◌, ℕ, ◌+◌, ◌-◌, ◌*◌, ◌/◌, ◌^◌, ◌≤◌, ◌<◌, ◌==◌, length, arith, refl, ap, subst, sym, ◌∙◌}
+use Rattle.std.proofs.Common.{◌≡◌, ℕ, ◌+◌, ◌*◌, ◌^◌, ◌≤◌, ◌<◌, ◌==◌, length, arith, refl, ap, subst, sym, ◌∙◌}
 use Rattle.digit_codes.specs.Reading.{lasso_of}
 use Rattle.lash_model.specs.Letters.{sign_bit}
-use Rattle.lash_model.specs.Lassos.{denominator, numerator}
-use Rattle.fraction_codes.specs.Steps.{turned, signed}
+use Rattle.lash_model.specs.Lassos.{numerator}
+use Rattle.fraction_codes.specs.Steps.{turned}
 use Rattle.fraction_codes.proofs.Digits.{few_signs}
 use Rattle.fraction_codes.proofs.LowestTerms.{value_is}
 use Rattle.fraction_codes.proofs.ReadingOn.{IsLassoRead, lasso_read, first_room, second_room, third_room, end_room, turned_is, denominator_read, denominator_positive, denominator_small, numerator_read}

@@ -1,7 +1,6 @@
 -- One power more was marked, or the power at hand was met before.
-use Rattle.std.proofs.Common.{◌≡◌, ◌≢◌, ℕ, ◌-◌, ◌<◌, length, get_or, arith, ◌∙◌, sym, subst}
+use Rattle.std.proofs.Common.{ℕ, ◌-◌, ◌<◌, length, arith, ◌∙◌, sym, subst}
 use Rattle.std.proofs.lemmas.List.{get_or_read}
-use Rattle.fraction_codes.specs.declared.returning.Turn.{Turn}
 use Rattle.fraction_codes.specs.Steps.{IsPowerTurn}
 use Rattle.fraction_codes.proofs.Turning.{marks_more, marks_inside, met_again, turn_is}
 use Rattle.fraction_codes.proofs.returning.first_return.Goals as goal

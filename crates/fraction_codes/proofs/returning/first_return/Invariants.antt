@@ -1,5 +1,5 @@
 -- The powers so far are marked.
-use Rattle.std.proofs.Common.{◌-◌, ◌==◌, length}
+use Rattle.std.proofs.Common.{◌==◌}
 use Rattle.std.specs.List.{count_by}
 use Rattle.fraction_codes.specs.Steps.{AreMarks}
 use Rattle.fraction_codes.proofs.returning.first_return.Given as goal

@@ -1,4 +1,4 @@
-use Rattle.std.proofs.Common.{◌+◌, ◌-◌, ◌≤◌, ℕ, arith, rules}
+use Rattle.std.proofs.Common.{◌+◌, ◌-◌, ◌≤◌, ℕ, arith}
 use Rattle.fraction_codes.proofs.Digits.{shorter_few, sign_quotient}
 use Rattle.fraction_codes.proofs.signs.sign_digit.Goals as goal
 

@@ -1,5 +1,4 @@
 -- The point, the stem's digits, a bracket, the cycle's digits and a bracket.
-use Rattle.std.proofs.Common.{rules}
 use Rattle.fraction_codes.proofs.Putting.{go_on, cut}
 use Rattle.fraction_codes.proofs.text.put_fraction.Goals as goal
 
