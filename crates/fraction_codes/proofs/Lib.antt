@@ -1,0 +1,13 @@
+pub mod Coding
+pub mod Counting
+pub mod Denominators
+pub mod Digits
+pub mod Dividing
+pub mod Divisors
+pub mod Flooring
+pub mod LongRuns
+pub mod LowestTerms
+pub mod Meeting
+pub mod Putting
+pub mod ReadingOn
+pub mod Turning

@@ -1,0 +1,21 @@
+//! Vectors of fractions in digits: the fixed code of a vector as a lasso, the fraction of a track read back, and the text of a
+//! track's digits.
+#![tactic(auto)]
+
+mod common;
+mod division;
+mod encoding;
+mod parts;
+mod ratio;
+mod reading;
+mod returning;
+mod signs;
+mod text;
+
+pub use encoding::encode;
+pub use ratio::{CodeError, Ratio};
+pub use reading::value;
+pub use text::digits_text;
+
+#[cfg(test)]
+mod tests;
