@@ -9,7 +9,7 @@ use Rattle.std.proofs.lemmas.Nat.{div-add-mod', mul-mod_first, pow-add}
 use Rattle.std.proofs.lemmas.List.{ext_get_or, get_or-map, length-map}
 use Rattle.fraction_codes.specs.declared.ratio.Ratio.{Ratio}
 use Rattle.fraction_codes.specs.declared.returning.Turn.{Turn}
-use Rattle.fraction_codes.specs.Fractions.{IsSmall, IsWholeTimes, IsCommonDenominator, above_floor}
+use Rattle.fraction_codes.specs.Fractions.{IsFraction, IsWholeTimes, IsCommonDenominator, above_floor}
 use Rattle.fraction_codes.specs.FixedCodes.{first_rest}
 use Rattle.fraction_codes.specs.LongDivision.{rests_after, letters_of, IsFirstMetAgain}
 use Rattle.fraction_codes.specs.Steps.{IsPowerTurn}
@@ -43,11 +43,11 @@ rests_same r d a b rests h all e = ext_get_or 0 (rests_after r d a rests) (rests
     entry i l = rest_is r d i a rests h l all ∙ sym (mul-mod_first (r ^ a) (get_or rests i 0) d) ∙ ap (λ m. (m * get_or rests i 0) % d) e ∙ mul-mod_first (r ^ b) (get_or rests i 0) d ∙ sym (rest_is r d i b rests h l all)
 
 -- the first remainder, over the fraction's own denominator
-pub first_rest_times : (v : Ratio) (d : ℕ) → IsSmall v → IsWholeTimes d v → above_floor v * d ≡ unsigned_abs v.den * first_rest d v
+pub first_rest_times : (v : Ratio) (d : ℕ) → IsFraction v → IsWholeTimes d v → above_floor v * d ≡ unsigned_abs v.den * first_rest d v
 first_rest_times v d small whole = quotient_times (unsigned_abs v.den) (above_floor v * d) (to_above v.num v.den d small.positive whole)
 
 -- what makes the first remainder a multiple of the divisor makes the fraction an integer
-pub whole_by_rest : (v : Ratio) (d k : ℕ) → 0 < d → IsSmall v → IsWholeTimes d v → d ∣ (k * first_rest d v) → IsWholeTimes k v
+pub whole_by_rest : (v : Ratio) (d k : ℕ) → 0 < d → IsFraction v → IsWholeTimes d v → d ∣ (k * first_rest d v) → IsWholeTimes k v
 whole_by_rest v d k h small whole p = from_above v.num v.den k small.positive (multiple (unsigned_abs v.den) (k * first_rest d v / d) (above_floor v * k) (eq_of_mul-eq-mul_right d h (above_floor v * k) (unsigned_abs v.den * (k * first_rest d v / d)) (by (above_floor v) (unsigned_abs v.den) (first_rest d v) (k * first_rest d v / d) (first_rest_times v d small whole) (quotient_times d (k * first_rest d v) p))))
   where
     by : (e y q t : ℕ) → e * d ≡ y * q → k * q ≡ d * t → e * k * d ≡ y * t * d
@@ -63,7 +63,7 @@ whole_by_rest v d k h small whole p = from_above v.num v.den k small.positive (m
         grouped y d t = omega arith
 
 -- equal remainders have equal powers
-pub powers_same : (r d a b : ℕ) (vs : List Ratio) → 0 < r → a ≤ b → All IsSmall vs → IsCommonDenominator vs d → All (λ p. p < d) (map (first_rest d) vs) → rests_after r d a (map (first_rest d) vs) ≡ rests_after r d b (map (first_rest d) vs) → r ^ a % d ≡ r ^ b % d
+pub powers_same : (r d a b : ℕ) (vs : List Ratio) → 0 < r → a ≤ b → All IsFraction vs → IsCommonDenominator vs d → All (λ p. p < d) (map (first_rest d) vs) → rests_after r d a (map (first_rest d) vs) ≡ rests_after r d b (map (first_rest d) vs) → r ^ a % d ≡ r ^ b % d
 powers_same r d a b vs h l small common below e = remainders_same d (r ^ a) (r ^ b) (pow-le-pow_right {n = r} h l) (common.least (r ^ b - r ^ a) (λ i w inside. whole_by_rest (get_or vs i w) d (r ^ b - r ^ a) common.positive (small i w inside) (common.clears i w inside) (divides i w inside)))
   where
     divides : (i : ℕ) (w : Ratio) → i < length vs → d ∣ ((r ^ b - r ^ a) * first_rest d (get_or vs i w))
@@ -102,7 +102,7 @@ not_met (suc n) r d i j t is h l upto = by (λ k before. not_met n r d i k t is 
         whole = omega (arith, ge)
 
 -- so the remainders are met again first where the powers are
-pub met_is : (r d : ℕ) (vs : List Ratio) (t : Turn) → 0 < r → All IsSmall vs → IsCommonDenominator vs d → All (λ p. p < d) (map (first_rest d) vs) → IsPowerTurn r d t → IsFirstMetAgain (λ k. rests_after r d k (map (first_rest d) vs)) t.stem t.cycle
+pub met_is : (r d : ℕ) (vs : List Ratio) (t : Turn) → 0 < r → All IsFraction vs → IsCommonDenominator vs d → All (λ p. p < d) (map (first_rest d) vs) → IsPowerTurn r d t → IsFirstMetAgain (λ k. rests_after r d k (map (first_rest d) vs)) t.stem t.cycle
 met_is r d vs t h small common below is = record {
   turns = is.turns;
   again = rests_same r d (t.stem + t.cycle) t.stem (map (first_rest d) vs) h below is.again;

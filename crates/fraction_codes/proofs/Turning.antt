@@ -12,14 +12,14 @@ use Rattle.std.proofs.lemmas.List.Sums.{sum_by-set}
 use Rattle.fraction_codes.specs.Steps.{AreMarks, IsPowerTurn}
 
 -- 1 for what is not marked
-abbrev one_at_zero : ℕ → ℕ
+abbrev pub one_at_zero : ℕ → ℕ
 one_at_zero m = cond (m == 0) 1 0
 
-mark_next : (k : ℕ) → one_at_zero (k + 1) ≡ 0
+pub mark_next : (k : ℕ) → one_at_zero (k + 1) ≡ 0
 mark_next k = grind (arith, nat_tests)
 
 -- a mark more is a zero less
-zeros_less : (marks : List ℕ) (i y : ℕ) → i < length marks → get_or marks i 0 ≡ 0 → one_at_zero y ≡ 0 → count_by (λ m. m == 0) (set marks i y) + 1 ≡ count_by (λ m. m == 0) marks
+pub zeros_less : (marks : List ℕ) (i y : ℕ) → i < length marks → get_or marks i 0 ≡ 0 → one_at_zero y ≡ 0 → count_by (λ m. m == 0) (set marks i y) + 1 ≡ count_by (λ m. m == 0) marks
 zeros_less marks i y h free mark =
     let both : count_by (λ m. m == 0) (set marks i y) + one_at_zero (get_or marks i 0) ≡ count_by (λ m. m == 0) marks + one_at_zero y = sum_by-set one_at_zero marks i y 0 h in
     let here : one_at_zero (get_or marks i 0) ≡ 1 = ap one_at_zero free in

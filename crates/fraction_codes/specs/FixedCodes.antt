@@ -1,5 +1,5 @@
 -- The one code of a vector of fractions that is written.
-use Rattle.std.specs.Prelude.{◌≡◌, ℕ, ◌*◌, ◌/◌, ◌^◌, ◌≤◌, List, All, map, length, Some, slice_get, pos, ◌-ℤ◌, ◌*ℤ◌, ◌≤ℤ◌, ◌<ℤ◌, unsigned_abs}
+use Rattle.std.specs.Prelude.{◌≡◌, ℕ, ◌*◌, ◌/◌, ◌^◌, ◌≤◌, List, All, map, length, Some, slice_get, ℤ, pos, ◌-ℤ◌, ◌*ℤ◌, ◌≤ℤ◌, ◌<ℤ◌, unsigned_abs}
 use Rattle.lash_model.specs.Letters.{sign_bit}
 use Rattle.lash_model.specs.Words.{value}
 use Rattle.lash_model.specs.Lassos.{Lasso, IsLasso, denominator, numerator}
@@ -38,3 +38,9 @@ pub record Encodes (r : ℕ) (vs : List Ratio) (x : Lasso) : Type 0 where
 -- the lasso's vector is the given one
 abbrev pub SpellsVector : ℕ → List Ratio → Lasso → Type 0
 SpellsVector r vs x = (i : ℕ) (v : Ratio) → slice_get vs i ≡ Some v → numerator r (length vs) i x *ℤ v.den ≡ v.num *ℤ pos (denominator r x)
+
+-- a lasso in range whose vector is that of the integers ms over the denominator d
+pub record HasLasso (r d : ℕ) (ms : List ℤ) : Type 0 where
+  pub lasso : Lasso
+  pub in_range : IsLasso r (length ms) lasso
+  pub spells : (i : ℕ) (m : ℤ) → slice_get ms i ≡ Some m → numerator r (length ms) i lasso *ℤ pos d ≡ m *ℤ pos (denominator r lasso)

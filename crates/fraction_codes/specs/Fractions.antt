@@ -4,6 +4,10 @@ use Rattle.std.specs.Int.{int_div_euclid, int_rem_euclid}
 use Prim.Native.Nat.{◌∣◌}
 use Rattle.fraction_codes.specs.declared.ratio.Ratio.{Ratio}
 
+-- a fraction: its denominator is positive
+pub record IsFraction (v : Ratio) : Type 0 where
+  pub positive : (pos 1) ≤ℤ v.den
+
 -- the range of what is encoded: the denominator is positive, and neither part passes 2 ^ 100
 pub record IsSmall (v : Ratio) : Type 0 where
   pub positive : (pos 1) ≤ℤ v.den

@@ -5,6 +5,7 @@
 mod common;
 mod division;
 mod encoding;
+mod laws;
 mod parts;
 mod ratio;
 mod reading;
@@ -13,6 +14,7 @@ mod signs;
 mod text;
 
 pub use encoding::encode;
+pub use laws::vectors_have_lassos;
 pub use ratio::{CodeError, Ratio};
 pub use reading::value;
 pub use text::digits_text;
