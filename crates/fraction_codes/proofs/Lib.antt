@@ -4,6 +4,7 @@ pub mod Denominators
 pub mod Digits
 pub mod Dividing
 pub mod Divisors
+pub mod Excluding
 pub mod Existing
 pub mod Flooring
 pub mod LongRuns

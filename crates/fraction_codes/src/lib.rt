@@ -14,7 +14,7 @@ mod signs;
 mod text;
 
 pub use encoding::encode;
-pub use laws::vectors_have_lassos;
+pub use laws::{code_or_too_fine, vectors_have_lassos};
 pub use ratio::{CodeError, Ratio};
 pub use reading::value;
 pub use text::digits_text;
