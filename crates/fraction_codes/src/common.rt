@@ -46,8 +46,9 @@ fn least_multiple(a: u128, b: u128) -> u128
     a / greatest_divisor(a, b) * b
 }
 
-/// The least common denominator of the fractions; None exactly where it passes 65,536.
-pub(crate) fn common_denominator(values: &[Ratio]) -> Option<u32>
+/// The least common denominator of the fractions; None exactly where it passes 65,536. Conditions: the denominators are positive, and neither
+/// part of a fraction passes 2^100.
+pub fn common_denominator(values: &[Ratio]) -> Option<u32>
     requires { All IsSmall values.now }
     ensures some { IfSome result (λ d. IsCommonDenominator values.now d × (d ≤ 65536)) }
     ensures none { IfNone result (IsTooFine values.now) }

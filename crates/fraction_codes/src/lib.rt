@@ -13,6 +13,7 @@ mod returning;
 mod signs;
 mod text;
 
+pub use common::common_denominator;
 pub use encoding::encode;
 pub use laws::{code_or_too_fine, vectors_have_lassos};
 pub use ratio::{CodeError, Ratio};

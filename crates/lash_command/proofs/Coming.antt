@@ -1,14 +1,18 @@
 -- How far a run has come, from call to call.
-use Rattle.std.proofs.Common.{◌≡◌, ℕ, ◌+◌, ◌≤◌, List, [], ◌∷◌, ◌++◌, length, arith, refl, sym, ap, ◌∙◌, subst, append_assoc, append-nil, Option, None, Some}
+use Rattle.std.proofs.Common.{◌≡◌, ℕ, ◌+◌, ◌≤◌, List, [], ◌∷◌, ◌++◌, length, map, arith, refl, sym, ap, ◌∙◌, subst, append_assoc, append-nil, Option, None, Some}
 use Rattle.std.specs.List.{concat}
 use Rattle.std.specs.Io.KnownBytes.{prepend_known}
 use Rattle.std.proofs.lemmas.List.{length-append}
 use Rattle.std.proofs.lemmas.List.Folds.{concat-append}
+use Rattle.std.proofs.lemmas.List.{map-append}
+use Rattle.script_names.specs.Kept.{KeptSet}
+use Rattle.statement_meaning.specs.Asking.{Asked}
+use Rattle.statement_answers.specs.Keeping.{grown}
 use Rattle.lash_io.specs.Sinks.{Holds}
 use Rattle.lash_io.proofs.Holding.{holds_none, holds_then}
 use Rattle.script_pieces.specs.Taking.{Progress, Takes}
 use Rattle.lash_model.specs.Faults.{IsFaultCounted, last_count}
-use Rattle.lash_command.specs.Answers.{IsAnswered, AreAnswered, Outside, HasCome}
+use Rattle.lash_command.specs.Answers.{Answer, IsAnswered, AreAnswered, kept_behind, texts_of, pieces_of, Outside, HasCome}
 
 prepended : (xs ys : List ℕ) (known : Option (List ℕ)) → prepend_known xs (prepend_known ys known) ≡ prepend_known (xs ++ ys) known
 prepended xs ys None = refl
@@ -19,50 +23,57 @@ none_prepended None = refl
 none_prepended (Some known) = refl
 
 -- nothing was taken yet
-pub come_none : (o : Outside) → HasCome o o (record { given = 0; held = [] }) 0
-come_none o = record { texts = []; pieces = []; count = refl; answers = tt; given = refl; taken = none_prepended o.left; gained = holds_none o.held; read_faults = omega arith; write_faults = omega arith }
+pub come_none : (o : Outside) → HasCome o o [] (record { given = 0; held = [] }) 0
+come_none o = record { answers = []; count = refl; each = tt; keeps = refl; given = refl; taken = none_prepended o.left; gained = holds_none o.held; read_faults = omega arith; write_faults = omega arith }
 
 -- bytes were taken
-pub come_taken : (before now : Outside) (p q : Progress) (answered : ℕ) (left : Option (List ℕ)) (faults : ℕ) → HasCome before now p answered → Takes p q now.left left → now.read_faults ≤ faults → HasCome before (record now { left = left; read_faults = faults }) q answered
-come_taken before now p q answered left faults h t rose = record {
-  texts = h.texts;
-  pieces = h.pieces;
-  count = h.count;
+pub come_taken : (before now : Outside) (kept : List KeptSet) (p q : Progress) (answered : ℕ) (left : Option (List ℕ)) (faults : ℕ) → HasCome before now kept p answered → Takes p q now.left left → now.read_faults ≤ faults → HasCome before (record now { left = left; read_faults = faults }) kept q answered
+come_taken before now kept p q answered left faults h t rose = record {
   answers = h.answers;
+  count = h.count;
+  each = h.each;
+  keeps = h.keeps;
   given = t.given ∙ h.given;
-  taken = h.taken ∙ ap (λ known. prepend_known (concat h.texts ++ p.held) known) t.left ∙ prepended (concat h.texts ++ p.held) t.taken left
-      ∙ ap (λ xs. prepend_known xs left) (append_assoc (concat h.texts) p.held t.taken ∙ ap (λ xs. concat h.texts ++ xs) (sym t.held));
+  taken = h.taken ∙ ap (prepend_known (texts_of h.answers ++ p.held)) t.left ∙ prepended (texts_of h.answers ++ p.held) t.taken left ∙ ap (λ xs. prepend_known xs left) (append_assoc (texts_of h.answers) p.held t.taken ∙ ap (λ xs. texts_of h.answers ++ xs) (sym t.held));
   gained = h.gained;
   read_faults = omega (arith, h.read_faults, rose);
   write_faults = h.write_faults;
 }
 
--- one statement more and its piece
-answered_more : (given : ℕ) (texts pieces : List (List ℕ)) (text piece : List ℕ) → AreAnswered given texts pieces → IsAnswered (given + length (concat texts)) text piece → AreAnswered given (texts ++ text ∷ []) (pieces ++ piece ∷ [])
-answered_more given [] [] text piece h a = (subst (λ g. IsAnswered g text piece) (none given) a, tt)
+-- one answer more, where these sets are kept
+answered_more : (kept : List KeptSet) (given : ℕ) (xs : List Answer) (x : Answer) → AreAnswered kept given xs → IsAnswered (kept_behind kept xs) (given + length (texts_of xs)) x.text x.asked x.piece → AreAnswered kept given (xs ++ x ∷ [])
+answered_more kept given [] x h a = (subst (λ g. IsAnswered kept g x.text x.asked x.piece) (none given) a, tt)
   where
     none : (n : ℕ) → n + 0 ≡ n
     none n = omega arith
-answered_more given [] (p ∷ ps) text piece h a = absurd h
-answered_more given (t ∷ ts) [] text piece h a = absurd h
-answered_more given (t ∷ ts) (p ∷ ps) text piece h a = (h.0, answered_more (given + length t) ts ps text piece h.1 (subst (λ g. IsAnswered g text piece) (sums given) a))
+answered_more kept given (y ∷ ys) x h a = (h.0, answered_more (grown kept y.asked) (given + length y.text) ys x h.1 (subst (λ g. IsAnswered (kept_behind (grown kept y.asked) ys) g x.text x.asked x.piece) (sums given) a))
   where
-    sums : (n : ℕ) → n + length (concat (t ∷ ts)) ≡ n + length t + length (concat ts)
-    sums n = omega (arith, length-append t (concat ts))
+    sums : (n : ℕ) → n + length (texts_of (y ∷ ys)) ≡ n + length y.text + length (texts_of ys)
+    sums n = omega (arith, length-append y.text (texts_of ys))
+
+kept_more : (kept : List KeptSet) (xs : List Answer) (x : Answer) → kept_behind kept (xs ++ x ∷ []) ≡ grown (kept_behind kept xs) x.asked
+kept_more kept [] x = refl
+kept_more kept (y ∷ ys) x = kept_more (grown kept y.asked) ys x
 
 one_more : (xs : List (List ℕ)) (x : List ℕ) → concat (xs ++ x ∷ []) ≡ concat xs ++ x
 one_more xs x = concat-append xs (x ∷ []) ∙ ap (λ ys. concat xs ++ ys) (append-nil x)
 
+texts_more : (xs : List Answer) (x : Answer) → texts_of (xs ++ x ∷ []) ≡ texts_of xs ++ x.text
+texts_more xs x = ap concat (map-append (λ y. y.text) xs (x ∷ [])) ∙ one_more (map (λ y. y.text) xs) x.text
+
+pieces_more : (xs : List Answer) (x : Answer) → pieces_of (xs ++ x ∷ []) ≡ pieces_of xs ++ x.piece
+pieces_more xs x = ap concat (map-append (λ y. y.piece) xs (x ∷ [])) ∙ one_more (map (λ y. y.piece) xs) x.piece
+
 -- the statement whose bytes are held was given and answered
-pub come_more : (before now : Outside) (given : ℕ) (text piece : List ℕ) (q : Progress) (answered : ℕ) (held : Option (List ℕ)) (faults : ℕ) → HasCome before now (record { given = given; held = text ++ q.held }) answered → q.given ≡ given + length text → IsAnswered given text piece → Holds now.held held piece → now.write_faults ≤ faults → HasCome before (record now { held = held; write_faults = faults }) q (answered + 1)
-come_more before now given text piece q answered held faults h gives a holds rose = record {
-  texts = h.texts ++ text ∷ [];
-  pieces = h.pieces ++ piece ∷ [];
-  count = length-append h.texts (text ∷ []) ∙ ap (λ n. n + 1) h.count;
-  answers = answered_more 0 h.texts h.pieces text piece h.answers (subst (λ g. IsAnswered g text piece) (h.given ∙ none (length (concat h.texts))) a);
-  given = gives ∙ ap (λ n. n + length text) h.given ∙ sym (length-append (concat h.texts) text) ∙ ap length (sym (one_more h.texts text));
-  taken = h.taken ∙ ap (λ xs. prepend_known xs now.left) (sym (append_assoc (concat h.texts) text q.held) ∙ ap (λ xs. xs ++ q.held) (sym (one_more h.texts text)));
-  gained = subst (λ xs. Holds before.held held xs) (sym (one_more h.pieces piece)) (holds_then before.held now.held held (concat h.pieces) piece h.gained holds);
+pub come_more : (before now : Outside) (kept : List KeptSet) (given : ℕ) (x : Answer) (q : Progress) (answered : ℕ) (held : Option (List ℕ)) (faults : ℕ) → HasCome before now kept (record { given = given; held = x.text ++ q.held }) answered → q.given ≡ given + length x.text → IsAnswered kept given x.text x.asked x.piece → Holds now.held held x.piece → now.write_faults ≤ faults → HasCome before (record now { held = held; write_faults = faults }) (grown kept x.asked) q (answered + 1)
+come_more before now kept given x q answered held faults h gives a holds rose = record {
+  answers = h.answers ++ x ∷ [];
+  count = length-append h.answers (x ∷ []) ∙ ap (λ n. n + 1) h.count;
+  each = answered_more [] 0 h.answers x h.each (subst (λ ks. IsAnswered ks (0 + length (texts_of h.answers)) x.text x.asked x.piece) h.keeps (subst (λ g. IsAnswered kept g x.text x.asked x.piece) (h.given ∙ none (length (texts_of h.answers))) a));
+  keeps = ap (λ ks. grown ks x.asked) h.keeps ∙ sym (kept_more [] h.answers x);
+  given = gives ∙ ap (λ n. n + length x.text) h.given ∙ sym (length-append (texts_of h.answers) x.text) ∙ ap length (sym (texts_more h.answers x));
+  taken = h.taken ∙ ap (λ xs. prepend_known xs now.left) (sym (append_assoc (texts_of h.answers) x.text q.held) ∙ ap (λ xs. xs ++ q.held) (sym (texts_more h.answers x)));
+  gained = subst (λ xs. Holds before.held held xs) (sym (pieces_more h.answers x)) (holds_then before.held now.held held (pieces_of h.answers) x.piece h.gained holds);
   read_faults = h.read_faults;
   write_faults = omega (arith, h.write_faults, rose);
 }
@@ -71,15 +82,15 @@ come_more before now given text piece q answered held faults h gives a holds ros
     none n = omega arith
 
 -- nothing of the next statement's piece was written
-pub come_kept : (before now : Outside) (p : Progress) (answered : ℕ) (held : Option (List ℕ)) (faults : ℕ) → HasCome before now p answered → Holds now.held held [] → now.write_faults ≤ faults → HasCome before (record now { held = held; write_faults = faults }) p answered
-come_kept before now p answered held faults h holds rose = record {
-  texts = h.texts;
-  pieces = h.pieces;
-  count = h.count;
+pub come_kept : (before now : Outside) (kept : List KeptSet) (p : Progress) (answered : ℕ) (held : Option (List ℕ)) (faults : ℕ) → HasCome before now kept p answered → Holds now.held held [] → now.write_faults ≤ faults → HasCome before (record now { held = held; write_faults = faults }) kept p answered
+come_kept before now kept p answered held faults h holds rose = record {
   answers = h.answers;
+  count = h.count;
+  each = h.each;
+  keeps = h.keeps;
   given = h.given;
   taken = h.taken;
-  gained = subst (λ xs. Holds before.held held xs) (append-nil (concat h.pieces)) (holds_then before.held now.held held (concat h.pieces) [] h.gained holds);
+  gained = subst (λ xs. Holds before.held held xs) (append-nil (pieces_of h.answers)) (holds_then before.held now.held held (pieces_of h.answers) [] h.gained holds);
   read_faults = h.read_faults;
   write_faults = omega (arith, h.write_faults, rose);
 }

@@ -1,65 +1,91 @@
 -- A set that was read is one that is compiled: its terms are over the declared variables and inside the limits, and
--- the variables, declared and bound, are integers.
-use Rattle.std.proofs.Common.{◌≡◌, ℕ, suc, ◌+◌, ◌<◌, List, [], ◌∷◌, length, map, arith, refl, sym, ◌∙◌, subst, ap, Bool, true, false, ◌||◌, cond, nat_lt, Option, None, Some}
-use Rattle.std.proofs.Math.IntN.{ℤ, ◌+ℤ◌, pos}
+-- the variables, declared and bound, are integers, where those of the kept sets are.
+use Rattle.std.proofs.Common.{◌≡◌, ℕ, zero, suc, ◌+◌, ◌≤◌, ◌<◌, List, [], ◌∷◌, length, map, arith, refl, sym, ◌∙◌, subst, ap, Bool, true, false, ◌||◌, cond, nat_eq, nat_lt, Option, None, Some}
 use Rattle.std.specs.List.{AllByRecursion, All}
 use Rattle.std.specs.Prelude.{is_some}
-use Rattle.std.specs.Ordering.{int_eq}
-use Rattle.std.proofs.lemmas.Bool.{cond_both, ltb-false, true≢false}
+use Rattle.std.proofs.lemmas.Bool.{ltb-false, true≢false}
 use Rattle.std.proofs.lemmas.List.{length-append, length-map}
 use Rattle.std.proofs.lemmas.List.Elements.{All-from_recursion}
-use Rattle.std.proofs.lemmas.List.Quantifiers.{position-Some}
-use Rattle.lash_model.specs.Formulas.{Int, Linear, Formula, Not as CoreNot, And as CoreAnd, Or as CoreOr, Exists as CoreExists}
+use Rattle.std.proofs.lemmas.Bool.{eqb-true}
+use Rattle.lash_model.specs.Formulas.{Int, Linear, Formula, Le as CoreLe, Eq as CoreEq, Not as CoreNot, And as CoreAnd, Or as CoreOr, Exists as CoreExists}
 use Rattle.lash_model.specs.Standing.{all_int}
+use Rattle.parser_laws.proofs.Parts.{same_some, not_none}
 use Rattle.formula_core.specs.Counts.{nodes_of, depth_of}
-use Rattle.formula_core.specs.Terms.{in_front, added}
+use Rattle.formula_core.specs.FewLetters.{FitsLetters}
 use Rattle.formula_core.specs.Variables.{sorts_of}
 use Rattle.script_grammar.specs.Views.{Relation, AtMost, Below, AtLeast, Above, Equal, Unequal, Quantifier, Exists, Forall}
-use Rattle.script_syntax.specs.Trees.{PartShape, Constant, Scaled, Variable, SignedShape, DeclarationShape, TreeShape, Truth, Compare, Call, Not, And, Or, Implies, Equivalent, Quantified}
-use Rattle.script_statements.specs.Statements.{ComprehensionShape}
-use Rattle.script_meaning.specs.Scopes.{Scope, place_of, variable_of, with_declared}
-use Rattle.script_meaning.specs.Core.{signed, turned, added_at, with_part, with_term, difference, truth, compared, bound_all, core}
-use Rattle.script_meaning.specs.Limits.{literal_passes, nodes_limit, depth_limit, coefficients_pass, constant_passes, some_atom}
+use Rattle.script_syntax.specs.Trees.{SignedShape, DeclarationShape, TreeShape, Truth, Compare, Call, Not, And, Or, Implies, Equivalent, Quantified}
+use Rattle.script_names.specs.Kept.{KeptSet, kept_set}
+use Rattle.script_names.specs.Scopes.{Scope, variable_of, with_declared}
+use Rattle.script_meaning.specs.Core.{difference, truth, compared, bound_all, argument, callee, called, core}
+use Rattle.script_meaning.specs.Limits.{literal_passes}
 use Rattle.script_meaning.specs.Resolving.{IsWithin}
-use Rattle.script_meaning.specs.declared.limits.Which.TheVariants.{Literal, Nodes, Depth, Coefficient, Constant as ConstantLimit}
+use Rattle.script_meaning.specs.declared.limits.Which.TheVariants.{Literal, Sets, Nodes, Depth, Coefficient, Constant as ConstantLimit}
 use Rattle.script_meaning.proofs.Judging.{bound_some}
-use Rattle.script_parse.specs.Answers.{core_of}
-use Rattle.script_parse.specs.Plain.{IsPlainTree, IsInt, IsPlainSet}
+use Rattle.script_meaning.proofs.Placing.{term_below, difference_below}
+use Rattle.term_substitution.specs.Conditions.{IsOver as IsSubstitutedOver}
+use Rattle.term_substitution.specs.Limits.{nodes_limit, depth_limit, coefficients_pass, constant_passes, some_atom}
+use Rattle.term_substitution.specs.Substitution.{substituted}
+use Rattle.term_substitution.proofs.Reaching.{AreBelow, result_placed}
+use Rattle.script_parse.specs.Plain.{IsPlainTree, IsInt}
 use Rattle.set_compile.specs.Conditions.{IsTermOver, IsOver, BindsIntegers}
+use Rattle.statement_answers.specs.Automata.{IsGiven}
 
--- each place is below m
-abbrev AreBelow : ℕ → List (ℕ × ℤ) → Type 0
-AreBelow m ts = AllByRecursion (λ t. t.0 < m) ts
+-- the kept sets are over their variables and bind integers
+pub record IsFine (k : KeptSet) : Type 0 where
+  pub over : IsOver (length k.vars) k.formula
+  pub bound : BindsIntegers k.formula
 
-front_below : (m place : ℕ) (c : ℤ) (ts : List (ℕ × ℤ)) → place < m → AreBelow m ts → AreBelow m (in_front place c ts)
-front_below m place c ts lt h = cond_both (int_eq c (pos 0)) ts ((place, c) ∷ ts) (AreBelow m) (λ _. h) (λ _. (lt, h))
+-- the two crates say it alike
+pub compiled_over : (m : ℕ) (f : Formula) → IsSubstitutedOver m f → IsOver m f
+compiled_over m (CoreLe a) h = record { places = h.places; inside = h.inside }
+compiled_over m (CoreEq a) h = record { places = h.places; inside = h.inside }
+compiled_over m (CoreNot f) h = compiled_over m f h
+compiled_over m (CoreAnd f g) h = (compiled_over m f h.0, compiled_over m g h.1)
+compiled_over m (CoreOr f g) h = (compiled_over m f h.0, compiled_over m g h.1)
+compiled_over m (CoreExists s f) h = compiled_over (m + 1) f h
 
-added_below : (m : ℕ) (ts : List (ℕ × ℤ)) (place : ℕ) (c : ℤ) → place < m → AreBelow m ts → AreBelow m (added ts place c)
-unfolding added
-added_below m [] place c lt h = front_below m place c [] lt tt
-added_below m (t ∷ ts) place c lt h = cond_both (nat_lt t.0 place) (t ∷ added ts place c) (cond (nat_lt place t.0) (in_front place c (t ∷ ts)) (in_front place (t.1 +ℤ c) ts)) (AreBelow m)
-    (λ _. (h.0, added_below m ts place c lt h.1))
-    (λ _. cond_both (nat_lt place t.0) (in_front place c (t ∷ ts)) (in_front place (t.1 +ℤ c) ts) (AreBelow m) (λ _. front_below m place c (t ∷ ts) lt h) (λ _. front_below m place (t.1 +ℤ c) ts lt h.1))
+pub substituted_over : (m : ℕ) (f : Formula) → IsOver m f → IsSubstitutedOver m f
+substituted_over m (CoreLe a) h = record { places = h.places; inside = h.inside }
+substituted_over m (CoreEq a) h = record { places = h.places; inside = h.inside }
+substituted_over m (CoreNot f) h = substituted_over m f h
+substituted_over m (CoreAnd f g) h = (substituted_over m f h.0, substituted_over m g h.1)
+substituted_over m (CoreOr f g) h = (substituted_over m f h.0, substituted_over m g h.1)
+substituted_over m (CoreExists s f) h = substituted_over (m + 1) f h
 
--- the place of a name is a position in the scope
-place_below : (scope : Scope) (name : List ℕ) (place : ℕ) → place_of scope name ≡ Some place → place < length scope
-place_below scope name place e = (position-Some _ scope place ([], Int) e).0
+-- substitution binds what was bound
+substituted_bound : (f : Formula) (terms : List Linear) (places : ℕ) → BindsIntegers f → BindsIntegers (substituted f terms places)
+substituted_bound (CoreLe a) terms places h = tt
+substituted_bound (CoreEq a) terms places h = tt
+substituted_bound (CoreNot f) terms places h = substituted_bound f terms places h
+substituted_bound (CoreAnd f g) terms places h = (substituted_bound f terms places h.0, substituted_bound g terms places h.1)
+substituted_bound (CoreOr f g) terms places h = (substituted_bound f terms places h.0, substituted_bound g terms places h.1)
+substituted_bound (CoreExists s f) terms places h = (h.0, substituted_bound f terms places h.1)
 
-at_below : (m : ℕ) (ts : List (ℕ × ℤ)) (o : Option ℕ) (c : ℤ) → ((place : ℕ) → o ≡ Some place → place < m) → AreBelow m ts → AreBelow m (added_at ts o c)
-at_below m ts None c lt h = h
-at_below m ts (Some place) c lt h = added_below m ts place c (lt place refl) h
+-- a kept set that is called
+record IsCallee (o : Option Formula) (count : ℕ) : Type 0 where
+  over : (f : Formula) → o ≡ Some f → IsOver count f
+  bound : (f : Formula) → o ≡ Some f → BindsIntegers f
 
-part_below : (scope : Scope) (ts : List (ℕ × ℤ)) (minus : Bool) (p : PartShape) → AreBelow (length scope) ts → AreBelow (length scope) (with_part scope ts minus p)
-part_below scope ts minus (Constant n) h = h
-part_below scope ts minus (Scaled n name) h = at_below (length scope) ts (place_of scope name.left) (signed minus n) (place_below scope name.left) h
-part_below scope ts minus (Variable name) h = at_below (length scope) ts (place_of scope name.left) (signed minus 1) (place_below scope name.left) h
+same_formula : {f g : Formula} → Some f ≡ Some g → f ≡ g
+same_formula {f} {g} e = same_some f g e
 
-term_below : (scope : Scope) (turn : Bool) (ts : List (ℕ × ℤ)) (ss : List SignedShape) → AreBelow (length scope) ts → AreBelow (length scope) (with_term scope turn ts ss)
-term_below scope turn ts [] h = h
-term_below scope turn ts (s ∷ ss) h = term_below scope turn (with_part scope ts (turned turn s.minus) s.part) ss (part_below scope ts (turned turn s.minus) s.part h)
+callee_fine : (o : Option KeptSet) (count : ℕ) → ((k : KeptSet) → o ≡ Some k → IsFine k) → IsCallee (callee o count) count
+callee_fine None count fine = record { over = λ f e. absurd (not_none f e); bound = λ f e. absurd (not_none f e) }
+callee_fine (Some k) count fine = by (nat_eq count (length k.vars)) refl
+  where
+    by : (b : Bool) → nat_eq count (length k.vars) ≡ b → IsCallee (cond b (Some k.formula) None) count
+    by true q = record {
+      over = λ f e. subst (λ g. IsOver count g) (same_formula e) (subst (λ n. IsOver n k.formula) (sym (eqb-true count (length k.vars) q)) (fine k refl).over);
+      bound = λ f e. subst BindsIntegers (same_formula e) (fine k refl).bound;
+    }
+    by false q = record { over = λ f e. absurd (not_none f e); bound = λ f e. absurd (not_none f e) }
 
-difference_below : (scope : Scope) (a b : List SignedShape) → AreBelow (length scope) (difference scope a b).terms
-difference_below scope a b = term_below scope true (with_term scope false [] a) b (term_below scope false [] a tt)
+-- the terms of arguments are over the scope
+arguments_below : (scope : Scope) (ts : List (List SignedShape)) → All (λ t. All (λ s. s.0 < length scope) t.terms) (map (argument scope) ts)
+arguments_below scope [] k d lt = absurd (omega (arith, lt))
+arguments_below scope (t ∷ ts) zero d lt = All-from_recursion (λ s. s.0 < length scope) (argument scope t).terms (term_below scope false [] t tt)
+arguments_below scope (t ∷ ts) (suc k) d lt = arguments_below scope ts k d (omega (arith, lt))
 
 -- an atom that passes no limit
 atom_over : (m : ℕ) (a : Linear) → AreBelow m a.terms → coefficients_pass a ≡ false → constant_passes a ≡ false → IsTermOver m a
@@ -70,6 +96,18 @@ atom_over m a h few small = record {
 
 truth_over : (m : ℕ) (b : Bool) → some_atom coefficients_pass (truth b) ≡ false → some_atom constant_passes (truth b) ≡ false → IsOver m (truth b)
 truth_over m b few small = atom_over m _ tt few small
+
+called_over : (o : Option Formula) (scope : Scope) (ts : List (List SignedShape)) → IsCallee o (length ts) → some_atom coefficients_pass (called o scope ts) ≡ false → some_atom constant_passes (called o scope ts) ≡ false → IsOver (length scope) (called o scope ts)
+called_over None scope ts h few small = truth_over (length scope) false few small
+called_over (Some f) scope ts h few small = compiled_over (length scope) (substituted f (map (argument scope) ts) (length scope)) (result_placed f (map (argument scope) ts) (length scope) (arguments_below scope ts) (substituted_over _ f (subst (λ n. IsOver n f) (sym (length-map ts (argument scope))) (h.over f refl))) few small)
+
+called_bound : (o : Option Formula) (scope : Scope) (ts : List (List SignedShape)) → IsCallee o (length ts) → BindsIntegers (called o scope ts)
+called_bound None scope ts h = tt
+called_bound (Some f) scope ts h = substituted_bound f (map (argument scope) ts) (length scope) (h.bound f refl)
+
+-- whatever the name, the set that is kept is fine
+abbrev pub AreFine : List KeptSet → Type 0
+AreFine kept = (name : List ℕ) (k : KeptSet) → kept_set kept name ≡ Some k → IsFine k
 
 difference_over : (scope : Scope) (a b : List SignedShape) → coefficients_pass (difference scope a b) ≡ false → constant_passes (difference scope a b) ≡ false → IsTermOver (length scope) (difference scope a b)
 difference_over scope a b few small = atom_over (length scope) (difference scope a b) (difference_below scope a b) few small
@@ -109,9 +147,9 @@ right_false true y e = absurd (true≢false e)
 right_false false y e = e
 
 -- no atom of the formula passes a limit
-record PassesNone (f : Formula) : Type 0 where
-  few : some_atom coefficients_pass f ≡ false
-  small : some_atom constant_passes f ≡ false
+pub record PassesNone (f : Formula) : Type 0 where
+  pub few : some_atom coefficients_pass f ≡ false
+  pub small : some_atom constant_passes f ≡ false
 
 negated_none : (f : Formula) → PassesNone (CoreNot f) → PassesNone f
 negated_none f h = record { few = h.few; small = h.small }
@@ -129,23 +167,20 @@ bound_none : (q : Quantifier) (ds : List DeclarationShape) (f : Formula) → Pas
 bound_none q ds f h = record { few = sym (bound_some coefficients_pass q ds f) ∙ h.few; small = sym (bound_some constant_passes q ds f) ∙ h.small }
 
 -- a tree's core formula whose atoms pass no limit is over the scope
-core_within : (scope : Scope) (f : TreeShape) → PassesNone (core scope f) → IsOver (length scope) (core scope f)
-core_within scope (Truth b) h = truth_over (length scope) b h.few h.small
-core_within scope (Compare a r b) h = compared_over scope a r b h.few h.small
-core_within scope (Call name ts) h = truth_over (length scope) false h.few h.small
-core_within scope (Not f) h = core_within scope f (negated_none (core scope f) h)
-core_within scope (And f g) h = let p = both_none (core scope f) (core scope g) h in (core_within scope f p.0, core_within scope g p.1)
-core_within scope (Or f g) h = let p = either_none (core scope f) (core scope g) h in (core_within scope f p.0, core_within scope g p.1)
-core_within scope (Implies f g) h = let p = implied_none (core scope f) (core scope g) h in (core_within scope f p.0, core_within scope g p.1)
-core_within scope (Equivalent f g) h =
-    let p = implied_none (core scope f) (core scope g) (both_none (CoreOr (CoreNot (core scope f)) (core scope g)) (CoreOr (CoreNot (core scope g)) (core scope f)) h).0 in
-    let left = core_within scope f p.0 in
-    let right = core_within scope g p.1 in
+core_within : (kept : List KeptSet) → AreFine kept → (scope : Scope) (f : TreeShape) → PassesNone (core kept scope f) → IsOver (length scope) (core kept scope f)
+core_within kept fine scope (Truth b) h = truth_over (length scope) b h.few h.small
+core_within kept fine scope (Compare a r b) h = compared_over scope a r b h.few h.small
+core_within kept fine scope (Call name ts) h = called_over (callee (kept_set kept name.left) (length ts)) scope ts (callee_fine (kept_set kept name.left) (length ts) (fine name.left)) h.few h.small
+core_within kept fine scope (Not f) h = core_within kept fine scope f (negated_none (core kept scope f) h)
+core_within kept fine scope (And f g) h = let p = both_none (core kept scope f) (core kept scope g) h in (core_within kept fine scope f p.0, core_within kept fine scope g p.1)
+core_within kept fine scope (Or f g) h = let p = either_none (core kept scope f) (core kept scope g) h in (core_within kept fine scope f p.0, core_within kept fine scope g p.1)
+core_within kept fine scope (Implies f g) h = let p = implied_none (core kept scope f) (core kept scope g) h in (core_within kept fine scope f p.0, core_within kept fine scope g p.1)
+core_within kept fine scope (Equivalent f g) h =
+    let p = implied_none (core kept scope f) (core kept scope g) (both_none (CoreOr (CoreNot (core kept scope f)) (core kept scope g)) (CoreOr (CoreNot (core kept scope g)) (core kept scope f)) h).0 in
+    let left = core_within kept fine scope f p.0 in
+    let right = core_within kept fine scope g p.1 in
     ((left, right), (right, left))
-core_within scope (Quantified q ds f) h = bound_over (length scope) q ds (core (with_declared scope ds) f) (subst (λ m. IsOver m (core (with_declared scope ds) f)) (length_declared scope ds) (core_within (with_declared scope ds) f (bound_none q ds (core (with_declared scope ds) f) h)))
-
-pub core_over : (scope : Scope) (f : TreeShape) → some_atom coefficients_pass (core scope f) ≡ false → some_atom constant_passes (core scope f) ≡ false → IsOver (length scope) (core scope f)
-core_over scope f few small = core_within scope f (record { few = few; small = small })
+core_within kept fine scope (Quantified q ds f) h = bound_over (length scope) q ds (core kept (with_declared scope ds) f) (subst (λ m. IsOver m (core kept (with_declared scope ds) f)) (length_declared scope ds) (core_within kept fine (with_declared scope ds) f (bound_none q ds (core kept (with_declared scope ds) f) h)))
 
 -- where the choice is none, the test failed, and what comes behind it is none
 record IsPassed {A : Type 0} (b : Bool) (o : Option A) : Type 0 where
@@ -156,16 +191,25 @@ passed_over : {A : Type 0} (b : Bool) (x : A) (o : Option A) → cond b (Some x)
 passed_over true x o e = absurd (true≢false (ap is_some e))
 passed_over false x o e = record { test = refl; rest = e }
 
-within_none : (base places : ℕ) (tree : TreeShape) (f : Formula) → IsWithin base places tree f → PassesNone f
-within_none base places tree f h =
+-- what is known of a formula that passes no limit
+pub record PassesLimits (full : Bool) (f : Formula) : Type 0 where
+  pub atoms : PassesNone f
+  pub nodes : nodes_of f ≤ nodes_limit
+  pub depth : depth_of f ≤ depth_limit
+  pub room : full ≡ false
+
+pub within_none : (full : Bool) (base places : ℕ) (tree : TreeShape) (f : Formula) → IsWithin full base places tree f → PassesLimits full f
+within_none full base places tree f h =
     let literals = passed_over (literal_passes tree) Literal _ h.none in
-    let nodes = passed_over (nat_lt nodes_limit (nodes_of f)) Nodes _ literals.rest in
+    let sets = passed_over full Sets _ literals.rest in
+    let nodes = passed_over (nat_lt nodes_limit (nodes_of f)) Nodes _ sets.rest in
     let depth = passed_over (nat_lt depth_limit (depth_of f)) Depth _ nodes.rest in
     let coefficients = passed_over (some_atom coefficients_pass f) Coefficient _ depth.rest in
-    record { few = coefficients.test; small = (passed_over (some_atom constant_passes f) ConstantLimit None coefficients.rest).test }
+    record { atoms = record { few = coefficients.test; small = (passed_over (some_atom constant_passes f) ConstantLimit None coefficients.rest).test }; nodes = ltb-false nodes_limit (nodes_of f) nodes.test; depth = ltb-false depth_limit (depth_of f) depth.test; room = sets.test }
 
-pub given_over : (base : ℕ) (set : ComprehensionShape) → IsWithin base (length set.vars) set.formula (core_of set) → IsOver (length set.vars) (core_of set)
-given_over base set h = subst (λ m. IsOver m (core_of set)) (length-map set.vars variable_of) (core_within (with_declared [] set.vars) set.formula (within_none base (length set.vars) set.formula (core_of set) h))
+-- the formula of declared variables is over them
+pub given_over : (kept : List KeptSet) → AreFine kept → (full : Bool) (base places : ℕ) (ds : List DeclarationShape) (f : TreeShape) → IsWithin full base places f (core kept (with_declared [] ds) f) → IsOver (length ds) (core kept (with_declared [] ds) f)
+given_over kept fine full base places ds f h = subst (λ m. IsOver m (core kept (with_declared [] ds) f)) (length-map ds variable_of) (core_within kept fine (with_declared [] ds) f (within_none full base places f (core kept (with_declared [] ds) f) h).atoms)
 
 compared_bound : (scope : Scope) (a : List SignedShape) (r : Relation) (b : List SignedShape) → BindsIntegers (compared scope a r b)
 compared_bound scope a AtMost b = tt
@@ -182,33 +226,42 @@ bound_keeps P turn bind Exists (d ∷ ds) f h p = subst (λ s. P (CoreExists s (
 bound_keeps P turn bind Forall (d ∷ ds) f h p = subst (λ s. P (CoreNot (CoreExists s (CoreNot (bound_all Forall ds f))))) (sym h.0)
     (turn (CoreExists Int (CoreNot (bound_all Forall ds f))) (bind (CoreNot (bound_all Forall ds f)) (turn (bound_all Forall ds f) (bound_keeps P turn bind Forall ds f h.1 p))))
 
-core_bound : (scope : Scope) (f : TreeShape) → IsPlainTree f → BindsIntegers (core scope f)
-core_bound scope (Truth b) h = tt
-core_bound scope (Compare a r b) h = compared_bound scope a r b
-core_bound scope (Call name ts) h = absurd h
-core_bound scope (Not f) h = core_bound scope f h
-core_bound scope (And f g) h = (core_bound scope f h.0, core_bound scope g h.1)
-core_bound scope (Or f g) h = (core_bound scope f h.0, core_bound scope g h.1)
-core_bound scope (Implies f g) h = (core_bound scope f h.0, core_bound scope g h.1)
-core_bound scope (Equivalent f g) h =
-    let left = core_bound scope f h.0 in
-    let right = core_bound scope g h.1 in
+pub core_bound : (kept : List KeptSet) → AreFine kept → (scope : Scope) (f : TreeShape) → IsPlainTree f → BindsIntegers (core kept scope f)
+core_bound kept fine scope (Truth b) h = tt
+core_bound kept fine scope (Compare a r b) h = compared_bound scope a r b
+core_bound kept fine scope (Call name ts) h = called_bound (callee (kept_set kept name.left) (length ts)) scope ts (callee_fine (kept_set kept name.left) (length ts) (fine name.left))
+core_bound kept fine scope (Not f) h = core_bound kept fine scope f h
+core_bound kept fine scope (And f g) h = (core_bound kept fine scope f h.0, core_bound kept fine scope g h.1)
+core_bound kept fine scope (Or f g) h = (core_bound kept fine scope f h.0, core_bound kept fine scope g h.1)
+core_bound kept fine scope (Implies f g) h = (core_bound kept fine scope f h.0, core_bound kept fine scope g h.1)
+core_bound kept fine scope (Equivalent f g) h =
+    let left = core_bound kept fine scope f h.0 in
+    let right = core_bound kept fine scope g h.1 in
     ((left, right), (right, left))
-core_bound scope (Quantified q ds f) h = bound_keeps BindsIntegers (λ f k. k) (λ f k. (refl, k)) q ds (core (with_declared scope ds) f) h.0 (core_bound (with_declared scope ds) f h.1)
-
-pub given_bound : (set : ComprehensionShape) → IsPlainSet set → BindsIntegers (core_of set)
-given_bound set h = core_bound (with_declared [] set.vars) set.formula h.tree
+core_bound kept fine scope (Quantified q ds f) h = bound_keeps BindsIntegers (λ f k. k) (λ f k. (refl, k)) q ds (core kept (with_declared scope ds) f) h.0 (core_bound kept fine (with_declared scope ds) f h.1)
 
 sorts_int : (ds : List DeclarationShape) → AllByRecursion IsInt ds → sorts_of (map variable_of ds) ≡ all_int (length ds)
 sorts_int [] h = refl
 sorts_int (d ∷ ds) h = ap (λ s. s ∷ sorts_of (map variable_of ds)) h.0 ∙ ap (λ ss. Int ∷ ss) (sorts_int ds h.1)
 
-pub given_sorts : (set : ComprehensionShape) → IsPlainSet set → sorts_of (with_declared [] set.vars) ≡ all_int (length set.vars)
-given_sorts set h = sorts_int set.vars h.integers
+pub given_sorts : (ds : List DeclarationShape) → AllByRecursion IsInt ds → sorts_of (with_declared [] ds) ≡ all_int (length ds)
+given_sorts ds h = sorts_int ds h
 
 variables_int : (ds : List DeclarationShape) → AllByRecursion IsInt ds → AllByRecursion (λ v. v.1 ≡ Int) (map variable_of ds)
 variables_int [] h = tt
 variables_int (d ∷ ds) h = (h.0, variables_int ds h.1)
 
-pub given_integers : (set : ComprehensionShape) → IsPlainSet set → All (λ v. v.1 ≡ Int) (with_declared [] set.vars)
-given_integers set h = All-from_recursion (λ v. v.1 ≡ Int) (with_declared [] set.vars) (variables_int set.vars h.integers)
+pub given_integers : (ds : List DeclarationShape) → AllByRecursion IsInt ds → All (λ v. v.1 ≡ Int) (with_declared [] ds)
+given_integers ds h = All-from_recursion (λ v. v.1 ≡ Int) (with_declared [] ds) (variables_int ds h)
+
+-- what the reader gives is what is compiled
+pub given_set : (kept : List KeptSet) → AreFine kept → (full : Bool) (ds : List DeclarationShape) (f : TreeShape) → AllByRecursion IsInt ds → IsPlainTree f → IsWithin full 2 (length ds) f (core kept (with_declared [] ds) f) → IsGiven (with_declared [] ds) (core kept (with_declared [] ds) f)
+given_set kept fine full ds f ints plain within =
+    let many : length (with_declared [] ds) ≡ length ds = length-map ds variable_of in
+    record {
+      integers = given_integers ds ints;
+      sorts = given_sorts ds ints ∙ ap all_int (sym many);
+      over = subst (λ n. IsOver n (core kept (with_declared [] ds) f)) (sym many) (given_over kept fine full 2 (length ds) ds f within);
+      bound = core_bound kept fine (with_declared [] ds) f plain;
+      letters = subst (λ n. FitsLetters 2 (core kept (with_declared [] ds) f) n) (sym many) within.letters;
+    }

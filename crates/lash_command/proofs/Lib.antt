@@ -1,6 +1,4 @@
 mod GivenSets
-mod Built
+mod Fitting
 mod Coming
 mod Turning
-mod VectorWords
-mod Agreeing

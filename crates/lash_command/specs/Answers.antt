@@ -1,102 +1,72 @@
 -- What a run answers, and what each answer says of the bytes that were there. Own.
-use Rattle.std.specs.Prelude.{ℕ, ◌+◌, ◌<◌, ◌≤◌, ◌≡◌, ◌⊎◌, ◌↔◌, false, List, [], ◌∷◌, ◌++◌, length, Option, None, Some, Result, Ok, Err, All, ℤ}
+use Rattle.std.specs.Prelude.{ℕ, ◌+◌, ◌<◌, ◌≤◌, ◌≡◌, ◌⊎◌, false, List, [], ◌∷◌, ◌++◌, length, map, Option, None, Some, Result, Ok, Err}
 use Rattle.std.specs.List.{concat}
 use Rattle.std.specs.Io.KnownBytes.{prepend_known}
 use Rattle.lash_model.specs.Faults.{IsFaultCounted}
-use Rattle.lash_model.specs.Formulas.{Sort, Int, Formula}
-use Rattle.lash_model.specs.Tables.{Table}
-use Rattle.lash_model.specs.Standing.{StandsFor, all_int}
-use Rattle.lash_model.specs.Text.{text_of}
-use Rattle.lash_model.specs.Meaning.{Solves}
-use Rattle.canonical_laws.specs.Canonical.{IsCanonical}
-use Rattle.formula_core.specs.FewLetters.{FitsLetters}
-use Rattle.formula_core.specs.Variables.{sorts_of}
-use Rattle.formula_core.specs.Shape.{formula_of}
 use Rattle.lash_io.specs.Sinks.{Holds, HoldsPart}
-use Rattle.set_compile.specs.Conditions.{IsOver, BindsIntegers}
-use Rattle.set_compile.specs.Steps.{IsCompiled, IsRefused}
 use Rattle.script_tokens.specs.Lexing.{tokens_of}
-use Rattle.script_statements.specs.Statements.{ComprehensionShape}
+use Rattle.script_statements.specs.Statements.{StatementShape}
 use Rattle.script_pieces.specs.Cuts.{statement_length}
 use Rattle.script_pieces.specs.Limits.{IsWithin as IsWithinBytes}
 use Rattle.script_pieces.specs.Taking.{Progress}
 use Rattle.script_pieces.specs.Answers.{IsRest}
-use Rattle.script_meaning.specs.Scopes.{with_declared}
-use Rattle.script_meaning.specs.Faults.{shown_fault}
-use Rattle.script_meaning.specs.Resolving.{IsWithin}
-use Rattle.script_parse.specs.Answers.{OfSet, core_of, IsCause}
-use Rattle.script_parse.specs.declared.statement.Statement.{Statement}
-use Rattle.script_parse.specs.declared.statement.Statement.TheVariants.{Show}
+use Rattle.script_names.specs.Kept.{KeptSet}
+use Rattle.script_meaning.specs.declared.limits.Which.TheVariants.{KeptCells}
+use Rattle.statement_meaning.specs.Asking as meaning
+use Rattle.statement_meaning.specs.Asking.{Asked}
+use Rattle.statement_meaning.specs.Judging.{statement_fault, IsStatementWithin}
+use Rattle.statement_answers.specs.Keeping.{grown}
+use Rattle.statement_answers.specs.Pieces.{IsPieceOf, IsHeavyAsked, IsTooMuch}
+use Rattle.statement_answers.specs.declared.errors.Unanswered.{Unanswered}
+use Rattle.statement_answers.specs.declared.errors.Unanswered.TheVariants as answering
+use Rattle.script_parse.specs.Answers.{OfStatement, IsCause}
 use Rattle.script_parse.specs.declared.errors.ScriptError.{ScriptError}
 use Rattle.script_parse.specs.declared.errors.ScriptError.TheVariants as reading
 use Rattle.lash_command.specs.Lines.{status_of, line_of, IsReported}
 use Rattle.lash_command.specs.declared.status.Status.{Status}
-use Rattle.lash_command.specs.declared.showing.Unshown.{Unshown}
-use Rattle.lash_command.specs.declared.showing.Unshown.TheVariants as showing
 use Rattle.lash_command.specs.declared.ending.Refusal.TheVariants.{Syntax, Name, Limit, Heavy}
 use Rattle.lash_command.specs.declared.ending.Ending.{Ending}
 use Rattle.lash_command.specs.declared.ending.Ending.TheVariants.{Finished, Usage, Refused, ReadFault, WriteFault, NoMemory, Unbuilt}
-
--- the cells that one construction may have
-abbrev pub cells_limit : ℕ
-cells_limit = 4194304
-
--- what a set of a script has: its variables are integers, declared and bound, its terms are over them and inside the limits, and its
--- letters are few
-pub record IsGiven (vars : List (List ℕ × Sort)) (f : Formula) : Type 0 where
-  pub integers : All (λ v. v.1 ≡ Int) vars
-  pub sorts : sorts_of vars ≡ all_int (length vars)
-  pub over : IsOver (length vars) f
-  pub bound : BindsIntegers f
-  pub letters : FitsLetters 2 f (length vars)
-
--- the automaton that is shown: the canonical one in base 2, over all variables, that stands for the set; each step that builds it is within
--- the limit of cells
-pub record IsAnswer (vars : List (List ℕ × Sort)) (f : Formula) (t : Table) : Type 0 where
-  pub stands : StandsFor t (sorts_of vars) f
-  pub canonical : IsCanonical t
-  pub base : t.base ≡ 2
-  pub tracks : t.tracks ≡ length vars
-  pub made : IsCompiled 2 (length vars) cells_limit f t
-
--- what showing a set left of a sink
-abbrev pub Shown : List (List ℕ × Sort) → Formula → Option (List ℕ) → Option (List ℕ) → ℕ → ℕ → {U : Type 0} → Result U Unshown → Type 0
-Shown vars f before after faults_before faults_after (Ok u) = (t : Table) × (IsAnswer vars f t × Holds before after (text_of vars t))
-Shown vars f before after faults_before faults_after (Err showing.Heavy) = IsRefused 2 (length vars) cells_limit f × Holds before after []
-Shown vars f before after faults_before faults_after (Err showing.Fault) = IsFaultCounted faults_before faults_after × ((t : Table) × (IsAnswer vars f t × HoldsPart before after (text_of vars t)))
-Shown vars f before after faults_before faults_after (Err showing.Memory) = Holds before after []
-
--- the same of a statement
-abbrev pub IsGivenStatement : Statement → Type 0
-IsGivenStatement (Show vars f) = IsGiven vars (formula_of f)
-
-abbrev pub StatementShown : Statement → Option (List ℕ) → Option (List ℕ) → ℕ → ℕ → {U : Type 0} → Result U Unshown → Type 0
-StatementShown (Show vars f) before after faults_before faults_after r = Shown vars (formula_of f) before after faults_before faults_after r
-
--- the set's names are right, it passes no limit, and the piece is the text of its automaton
-pub record IsShownAs (piece : List ℕ) (set : ComprehensionShape) : Type 0 where
-  pub names : shown_fault set.vars set.formula ≡ None
-  pub within : IsWithin 2 (length set.vars) set.formula (core_of set)
-  pub table : Table
-  pub answer : IsAnswer (with_declared [] set.vars) (core_of set) table
-  pub text : piece ≡ text_of (with_declared [] set.vars) table
 
 -- the text, behind so many bytes of the script, is a whole statement within the limits of bytes
 pub record IsWhole (given : ℕ) (text : List ℕ) : Type 0 where
   pub whole : statement_length false text ≡ Some (length text)
   pub within : IsWithinBytes given (length text)
 
--- such a statement shows a set, and the piece is its answer
-pub record IsAnswered (given : ℕ) (text piece : List ℕ) : Type 0 where
-  pub statement : IsWhole given text
-  pub shown : OfSet (tokens_of given text) (IsShownAs piece)
+-- the names of the statement are right, it passes no limit, and this is what it asks
+pub record IsAsking (kept : List KeptSet) (asked : Asked) (shape : StatementShape) : Type 0 where
+  pub names : statement_fault kept shape ≡ None
+  pub within : IsStatementWithin 2 kept shape
+  pub asks : meaning.asked kept shape ≡ Some asked
 
--- each statement has its piece, in their order
-abbrev pub AreAnswered : ℕ → List (List ℕ) → List (List ℕ) → Type 0
-AreAnswered given [] [] = Unit
-AreAnswered given [] (piece ∷ pieces) = ⊥
-AreAnswered given (text ∷ texts) [] = ⊥
-AreAnswered given (text ∷ texts) (piece ∷ pieces) = IsAnswered given text piece × AreAnswered (given + length text) texts pieces
+-- such a statement, where these sets are kept, and its piece
+pub record IsAnswered (kept : List KeptSet) (given : ℕ) (text : List ℕ) (asked : Asked) (piece : List ℕ) : Type 0 where
+  pub statement : IsWhole given text
+  pub asking : OfStatement (tokens_of given text) (IsAsking kept asked)
+  pub is : IsPieceOf kept asked piece
+
+-- a statement that was answered: its text, what it asks, and its piece
+pub record Answer : Type 0 where
+  pub text : List ℕ
+  pub asked : Asked
+  pub piece : List ℕ
+
+-- each statement has its piece, in their order; the sets that one keeps are there for those behind it
+abbrev pub AreAnswered : List KeptSet → ℕ → List Answer → Type 0
+AreAnswered kept given [] = Unit
+AreAnswered kept given (x ∷ xs) = IsAnswered kept given x.text x.asked x.piece × AreAnswered (grown kept x.asked) (given + length x.text) xs
+
+-- the sets that are kept behind the statements
+abbrev pub kept_behind : List KeptSet → List Answer → List KeptSet
+kept_behind kept [] = kept
+kept_behind kept (x ∷ xs) = kept_behind (grown kept x.asked) xs
+
+-- the bytes of the statements, and their pieces
+abbrev pub texts_of : List Answer → List ℕ
+texts_of xs = concat (map (λ x. x.text) xs)
+
+abbrev pub pieces_of : List Answer → List ℕ
+pieces_of xs = concat (map (λ x. x.piece) xs)
 
 -- what the source has left and the first sink holds, where they tell their bytes, with their counts of faults
 pub record Outside : Type 0 where
@@ -106,57 +76,59 @@ pub record Outside : Type 0 where
   pub write_faults : ℕ
 
 -- so many statements were taken, each was answered, and the sink has gained exactly their pieces; the bytes that were taken besides are held
-pub record HasCome (before now : Outside) (progress : Progress) (answered : ℕ) : Type 0 where
-  pub texts : List (List ℕ)
-  pub pieces : List (List ℕ)
-  pub count : length texts ≡ answered
-  pub answers : AreAnswered 0 texts pieces
-  pub given : progress.given ≡ length (concat texts)
-  pub taken : before.left ≡ prepend_known (concat texts ++ progress.held) now.left
-  pub gained : Holds before.held now.held (concat pieces)
+pub record HasCome (before now : Outside) (kept : List KeptSet) (progress : Progress) (answered : ℕ) : Type 0 where
+  pub answers : List Answer
+  pub count : length answers ≡ answered
+  pub each : AreAnswered [] 0 answers
+  pub keeps : kept ≡ kept_behind [] answers
+  pub given : progress.given ≡ length (texts_of answers)
+  pub taken : before.left ≡ prepend_known (texts_of answers ++ progress.held) now.left
+  pub gained : Holds before.held now.held (pieces_of answers)
   pub read_faults : before.read_faults ≤ now.read_faults
   pub write_faults : before.write_faults ≤ now.write_faults
 
--- so many statements were answered, and this is so of the bytes that are held then
-pub record Stops (before now : Outside) (answered : ℕ) (P : Progress → Type 0) : Type 0 where
+-- what is so of the sets that are kept, and of the bytes that are held
+abbrev pub Claim : Type 1
+Claim = List KeptSet → Progress → Type 0
+
+-- so many statements were answered, and this is so then
+pub record Stops (before now : Outside) (answered : ℕ) (P : Claim) : Type 0 where
+  pub kept : List KeptSet
   pub progress : Progress
-  pub come : HasCome before now progress answered
-  pub is : P progress
+  pub come : HasCome before now kept progress answered
+  pub is : P kept progress
 
 -- some number of statements was answered
-abbrev pub StopsSomewhere : Outside → Outside → (Progress → Type 0) → Type 0
+abbrev pub StopsSomewhere : Outside → Outside → Claim → Type 0
 StopsSomewhere before now P = (answered : ℕ) × Stops before now answered P
 
 -- the statement of the number is the one that is refused
-abbrev pub StopsAt : Outside → Outside → ℕ → (Progress → Type 0) → Type 0
+abbrev pub StopsAt : Outside → Outside → ℕ → Claim → Type 0
 StopsAt before now number P = (answered : ℕ) × ((number ≡ answered + 1) × Stops before now answered P)
 
 -- the script is at its end, and what is behind its last statement holds no token
-pub record IsBlankRest (now : Outside) (p : Progress) : Type 0 where
+pub record IsBlankRest (now : Outside) (kept : List KeptSet) (p : Progress) : Type 0 where
   pub rest : IsRest p now.left
   pub blank : tokens_of p.given p.held ≡ []
 
--- a set whose names are right and that passes no limit, but a step that builds its automaton has too many cells
-pub record IsHeavySet (set : ComprehensionShape) : Type 0 where
-  pub names : shown_fault set.vars set.formula ≡ None
-  pub within : IsWithin 2 (length set.vars) set.formula (core_of set)
-  pub refused : IsRefused 2 (length set.vars) cells_limit (core_of set)
-
--- the next statement shows such a set
-pub record IsHeavyNext (p : Progress) : Type 0 where
+-- the next statement's names are right and it passes no limit, and this is so of what it asks
+pub record IsNextAsked (P : List KeptSet → Asked → Type 0) (kept : List KeptSet) (p : Progress) : Type 0 where
   pub text : List ℕ
   pub behind : List ℕ
   pub held : p.held ≡ text ++ behind
   pub statement : IsWhole p.given text
-  pub shown : OfSet (tokens_of p.given text) IsHeavySet
+  pub asked : Asked
+  pub asking : OfStatement (tokens_of p.given text) (IsAsking kept asked)
+  pub is : P kept asked
 
 -- a part of the next statement's piece was written
-pub record IsPartWritten (between after : Option (List ℕ)) (p : Progress) : Type 0 where
+pub record IsPartWritten (between after : Option (List ℕ)) (kept : List KeptSet) (p : Progress) : Type 0 where
   pub text : List ℕ
   pub behind : List ℕ
+  pub asked : Asked
   pub piece : List ℕ
   pub held : p.held ≡ text ++ behind
-  pub answer : IsAnswered p.given text piece
+  pub answer : IsAnswered kept p.given text asked piece
   pub part : HoldsPart between after piece
 
 -- a fault of the sink was counted, and all pieces before this one were written
@@ -166,8 +138,8 @@ pub record IsCutShort (before now : Outside) : Type 0 where
   pub stops : StopsSomewhere before (record now { held = between }) (IsPartWritten between now.held)
 
 -- the reader of the script has this cause for its error
-abbrev pub IsUnread : Outside → Outside → ScriptError → Progress → Type 0
-IsUnread before now e p = IsCause 2 p now.left before.read_faults now.read_faults e
+abbrev pub IsUnread : Outside → Outside → ScriptError → List KeptSet → Progress → Type 0
+IsUnread before now e kept p = IsCause 2 kept p now.left before.read_faults now.read_faults e
 
 -- how a run ends that has taken the script; of want of memory nothing is said besides
 abbrev pub Ends : Ending → Outside → Outside → Type 0
@@ -175,11 +147,11 @@ Ends Finished before now = StopsSomewhere before now (IsBlankRest now)
 Ends Usage before now = ⊥
 Ends (Refused number (Syntax place)) before now = StopsAt before now number (IsUnread before now (reading.Syntax place))
 Ends (Refused number (Name fault place)) before now = StopsAt before now number (IsUnread before now (reading.Name fault place))
-Ends (Refused number (Limit which)) before now = StopsAt before now number (IsUnread before now (reading.Limit which))
-Ends (Refused number Heavy) before now = StopsAt before now number IsHeavyNext
+Ends (Refused number (Limit which)) before now = StopsAt before now number (IsUnread before now (reading.Limit which)) ⊎ ((which ≡ KeptCells) × StopsAt before now number (IsNextAsked IsTooMuch))
+Ends (Refused number Heavy) before now = StopsAt before now number (IsNextAsked IsHeavyAsked)
 Ends ReadFault before now = StopsSomewhere before now (IsUnread before now reading.Read)
 Ends WriteFault before now = IsCutShort before now
-Ends NoMemory before now = StopsSomewhere before now (λ _. Unit)
+Ends NoMemory before now = StopsSomewhere before now (λ _ _. Unit)
 Ends Unbuilt before now = StopsSomewhere before now (IsUnread before now reading.Unbuilt)
 
 -- where there are words nothing is taken
@@ -194,9 +166,9 @@ pub record Answers (status : Status) (words : ℕ) (before now : Outside) (err_b
   pub reported : IsReported (line_of ending) err_before err_now err_faults_before err_faults_now
 
 -- one statement more was answered, or the run ends
-abbrev pub Turns : Outside → Outside → Progress → ℕ → {U : Type 0} → Result U Ending → Type 0
-Turns before now progress answered (Ok u) = HasCome before now progress (answered + 1)
-Turns before now progress answered (Err e) = Ends e before now
+abbrev pub Turns : Outside → Outside → List KeptSet → Progress → ℕ → {U : Type 0} → Result U Ending → Type 0
+Turns before now kept progress answered (Ok u) = HasCome before now kept progress (answered + 1)
+Turns before now kept progress answered (Err e) = Ends e before now
 
 -- how the run ends where the reader of the script gives no statement of the number
 abbrev pub unread_ending : ℕ → ScriptError → Ending
@@ -207,12 +179,9 @@ unread_ending number (reading.Syntax place) = Refused number (Syntax place)
 unread_ending number (reading.Name fault place) = Refused number (Name fault place)
 unread_ending number reading.Memory = NoMemory
 
--- how it ends where the statement of the number is not shown
-abbrev pub unshown_ending : ℕ → Unshown → Ending
-unshown_ending number showing.Heavy = Refused number Heavy
-unshown_ending number showing.Fault = WriteFault
-unshown_ending number showing.Memory = NoMemory
-
--- the same vectors of so many integers solve both sets
-abbrev pub Agree : ℕ → Formula → Formula → Type 0
-Agree n f g = (ns : List ℤ) → length ns ≡ n → (Solves (all_int n) f ns 1 ↔ Solves (all_int n) g ns 1)
+-- how it ends where the statement of the number is not answered
+abbrev pub unanswered_ending : ℕ → Unanswered → Ending
+unanswered_ending number answering.Heavy = Refused number Heavy
+unanswered_ending number answering.KeptCells = Refused number (Limit KeptCells)
+unanswered_ending number answering.Fault = WriteFault
+unanswered_ending number answering.Memory = NoMemory

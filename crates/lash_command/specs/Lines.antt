@@ -3,8 +3,8 @@ use Rattle.std.specs.Prelude.{ℕ, ◌⊎◌, List, [], ◌++◌, Option, codes}
 use Rattle.std.specs.Fmt.{decimal}
 use Rattle.lash_model.specs.Faults.{IsFaultCounted}
 use Rattle.lash_io.specs.Sinks.{Holds, HoldsPart}
-use Rattle.script_meaning.specs.declared.names.NameFault.{NameFault}
-use Rattle.script_meaning.specs.declared.names.NameFault.TheVariants.{Unknown, Repeated, Misused}
+use Rattle.script_names.specs.declared.names.NameFault.{NameFault}
+use Rattle.script_names.specs.declared.names.NameFault.TheVariants.{Unknown, Repeated, Misused}
 use Rattle.script_meaning.specs.declared.limits.Which.{Which}
 use Rattle.script_meaning.specs.declared.limits.Which.TheVariants as limit
 use Rattle.lash_command.specs.declared.status.Status.{Status}

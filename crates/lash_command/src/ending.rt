@@ -4,7 +4,8 @@ ghost use Rattle.std.specs.Prelude.{◌≡◌};
 ghost use Rattle.lash_command.specs.Lines.{status_of};
 
 use crate::status::Status;
-use script_meaning::{NameFault, Which};
+use script_meaning::Which;
+use script_names::NameFault;
 
 /// Why a statement is refused. A place is a number of script bytes.
 #[derive(Clone, Copy, Debug, PartialEq, Eq)]
@@ -15,7 +16,7 @@ pub enum Refusal {
     Name { fault: NameFault, place: u64 },
     /// The first limit that is passed.
     Limit { which: Which },
-    /// A step of its table has more cells than the limit.
+    /// A construction of its tables has more cells than the limit.
     Heavy,
 }
 
@@ -31,7 +32,7 @@ pub enum Ending {
     ReadFault,
     WriteFault,
     NoMemory,
-    /// There are words, or a statement asks for what is not built yet.
+    /// There are words, or a statement has a token of what is not built yet.
     Unbuilt,
 }
 

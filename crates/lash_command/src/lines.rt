@@ -8,7 +8,8 @@ ghost use Rattle.lash_command.specs.Lines.{fault_words, place_text, limit_words,
 
 use crate::ending::{Ending, Refusal};
 use lash_io::{Block, Failed, Sink};
-use script_meaning::{NameFault, Which};
+use script_meaning::Which;
+use script_names::NameFault;
 
 /// What is wrong about a name.
 fn words_of_fault(fault: NameFault) -> &'static [u8]

@@ -1,12 +1,14 @@
 //! A session: the statements of a script are answered in their order, until the script is at its end or one is refused. Own.
 
 ghost use Rattle.std.specs.Prelude.{◌≡◌, ◌≤◌, ◌<◌, true, IfOk};
-ghost use Rattle.lash_command.specs.Answers.{Outside, HasCome, Ends, Turns, IsGivenStatement, StatementShown, unread_ending, unshown_ending};
+ghost use Rattle.statement_answers.specs.Keeping.{sets_kept};
+ghost use Rattle.lash_command.specs.Answers.{Outside, HasCome, Ends, Turns, unread_ending, unanswered_ending};
 
 use crate::ending::{Ending, Refusal};
-use crate::showing::{Unshown, binary, show};
 use lash_io::{Memory, Sink, Source};
-use script_parse::{ScriptError, Statement, Statements, built_sets_are_plain};
+use script_meaning::Which;
+use script_parse::{ScriptError, Statements, built_statements_are_plain};
+use statement_answers::{Library, Unanswered, answer, binary};
 use std::alloc::Global;
 
 /// How the run ends where the reader of the script gives no statement of the number.
@@ -24,35 +26,26 @@ fn unread(statement: u64, error: ScriptError) -> Ending
     Ending::Refused { statement, refusal }
 }
 
-/// How the run ends where the statement of the number is not shown.
-fn unshown(statement: u64, cause: Unshown) -> Ending
-    ensures { result ≡ unshown_ending statement cause }
+/// How the run ends where the statement of the number is not answered.
+fn unanswered(statement: u64, cause: Unanswered) -> Ending
+    ensures { result ≡ unanswered_ending statement cause }
 {
-    match cause {
-        Unshown::Heavy => Ending::Refused {
-            statement,
-            refusal: Refusal::Heavy,
+    let refusal = match cause {
+        Unanswered::Heavy => Refusal::Heavy,
+        Unanswered::KeptCells => Refusal::Limit {
+            which: Which::KeptCells,
         },
-        Unshown::Fault => Ending::WriteFault,
-        Unshown::Memory => Ending::NoMemory,
-    }
-}
-
-/// Answers a statement.
-fn answer<K: Sink>(alloc: Global, statement: Statement, out: &mut K) -> Result<(), Unshown>
-    requires given { IsGivenStatement statement }
-    ensures shown { StatementShown statement (K.held out.old) (K.held out.new) (K.faults out.old) (K.faults out.new) result }
-    ensures count { K.faults out.old ≤ K.faults out.new }
-{
-    match statement {
-        Statement::Show { vars, formula } => show(alloc, vars, &formula, out),
-    }
+        Unanswered::Fault => return Ending::WriteFault,
+        Unanswered::Memory => return Ending::NoMemory,
+    };
+    Ending::Refused { statement, refusal }
 }
 
 /// Answers the next statement, where so many were answered; or says how the run ends.
 fn turn<S: Source, K: Sink>(
     alloc: Global,
     statements: &mut Statements,
+    library: &mut Library,
     answered: u64,
     input: &mut S,
     out: &mut K,
@@ -64,13 +57,13 @@ fn turn<S: Source, K: Sink>(
     ensures live { IfOk result (λ _. statements.new.live ≡ true) }
     ensures grown { IfOk result (λ _. statements.old.progress.given < statements.new.progress.given) }
     ensures within { IfOk result (λ _. statements.new.progress.given ≤ 16777216) }
-    ensures comes { (before : Outside) → HasCome before (record { left = S.left input.old; read_faults = S.faults input.old; held = K.held out.old; write_faults = K.faults out.old }) statements.old.progress answered → Turns before (record { left = S.left input.new; read_faults = S.faults input.new; held = K.held out.new; write_faults = K.faults out.new }) statements.new.progress answered result }
+    ensures comes { (before : Outside) → HasCome before (record { left = S.left input.old; read_faults = S.faults input.old; held = K.held out.old; write_faults = K.faults out.old }) (sets_kept library.old) statements.old.progress answered → Turns before (record { left = S.left input.new; read_faults = S.faults input.new; held = K.held out.new; write_faults = K.faults out.new }) (sets_kept library.new) statements.new.progress answered result }
 {
-    built_sets_are_plain();
-    match statements.next(alloc, input) {
-        Ok(Some(statement)) => match answer(alloc, statement, out) {
+    built_statements_are_plain();
+    match statements.next(alloc, library.defs(), input) {
+        Ok(Some(statement)) => match answer(alloc, library, statement, out) {
             Ok(()) => Ok(()),
-            Err(cause) => Err(unshown(answered + 1, cause)),
+            Err(cause) => Err(unanswered(answered + 1, cause)),
         },
         Ok(None) => Err(Ending::Finished),
         Err(error) => Err(unread(answered + 1, error)),
@@ -85,9 +78,10 @@ pub(crate) fn session<S: Source, K: Sink>(alloc: Global, input: &mut S, out: &mu
         Ok(statements) => statements,
         Err(Memory) => return Ending::NoMemory,
     };
+    let mut library = Library::new(alloc);
     let mut answered = 0;
     'statements: loop {
-        match turn(alloc, &mut statements, answered, input, out) {
+        match turn(alloc, &mut statements, &mut library, answered, input, out) {
             Ok(()) => answered += 1,
             Err(ending) => return ending,
         }

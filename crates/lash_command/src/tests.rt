@@ -9,6 +9,12 @@ use std::test::Fail;
 const UP_TO_THREE: &[u8] =
     b"lash 1\nbase 2\nvars x int\nint 5\nroots 0 1\n0 + 0 2\n1 + 1 1\n2 + 3 3\n3 + 4 4\n4 - 4 4\nend\n";
 
+const SESSION: &[u8] =
+    b"set A (x int) = exists y int: y = 4*x and y >= 8;\nset B (x int) = A(x) and x <= 2;\nequal A B;\nsubset B A;\nprint A;\nsolve B;\ntest A (7/2);\ncheck forall x int: B(x) -> A(x + 1);\n";
+
+const SESSION_ANSWERS: &[u8] =
+    b"no\nyes\nlash 1\nbase 2\nvars x int\nint 4\nroots 0 1\n0 - 0 2\n1 - 1 1\n2 - 3 3\n3 + 3 3\nend\nsolution\nx 2 0:10\nout\ntrue\n";
+
 /// Bytes that come in pieces of five, from a source whose stated calls fail.
 fn source(alloc: Global, script: &[u8], fails: &[u64]) -> Result<MemSource, AllocError> {
     let bytes = Vec::from_slice(alloc, script)?;
@@ -81,7 +87,39 @@ fn refuses_wrong_statements(rt: HostRuntime) -> Result<(), Fail> {
             repeated
         )?
     );
-    assert!(rt; ends(rt.alloc(), b"check true;", 9, b"", b"lash: unbuilt\n")?);
+    let loops = b"loop L (x int) when true do x := x + 1;";
+    assert!(rt; ends(rt.alloc(), loops, 9, b"", b"lash: unbuilt\n")?);
+    assert!(rt;
+        ends(
+            rt.alloc(),
+            b"check exists x real: x = 1;",
+            9,
+            b"",
+            b"lash: unbuilt\n"
+        )?
+    );
+    Ok(())
+}
+
+/// A kept set is called, compared, printed, solved and tested.
+#[test]
+fn answers_a_session(rt: HostRuntime) -> Result<(), Fail> {
+    assert!(rt; ends(rt.alloc(), SESSION, 0, SESSION_ANSWERS, b"")?);
+    Ok(())
+}
+
+#[test]
+fn refuses_a_name_that_is_kept(rt: HostRuntime) -> Result<(), Fail> {
+    let repeated = b"lash: statement 2: repeated name at byte 21\n";
+    assert!(rt;
+        ends(
+            rt.alloc(),
+            b"set A () = true;\nset A () = false;",
+            2,
+            b"",
+            repeated
+        )?
+    );
     Ok(())
 }
 
@@ -169,6 +207,39 @@ fn tells_a_fault_of_the_sink(rt: HostRuntime) -> Result<(), Fail> {
     assert_eq!(rt; status.code(), 7);
     assert_eq!(rt; out.bytes(), b"lash 1\nbas".as_slice());
     assert_eq!(rt; err.bytes(), b"lash: ".as_slice());
+    Ok(())
+}
+
+/// A piece of one line is one `put`; here the second one fails behind two bytes.
+#[test]
+fn puts_a_line_at_once(rt: HostRuntime) -> Result<(), Fail> {
+    let alloc = rt.alloc();
+    let mut input = source(alloc, b"check true; check false;", &[])?;
+    let mut fails = Vec::new(alloc);
+    fails.push((2, 2)).map_err(|_| AllocError)?;
+    let mut out = match MemSink::new(alloc, 200, fails) {
+        Ok(sink) => sink,
+        Err(_) => return Err(Fail::from("no memory")),
+    };
+    let mut err = sink(alloc, 200)?;
+    let status = run(alloc, &[], &mut input, &mut out, &mut err);
+    assert_eq!(rt; status.code(), 7);
+    assert_eq!(rt; out.bytes(), b"true\nfa".as_slice());
+    assert_eq!(rt; err.bytes(), b"lash: write fault\n".as_slice());
+    Ok(())
+}
+
+#[test]
+fn answers_before_it_reads_on(rt: HostRuntime) -> Result<(), Fail> {
+    let alloc = rt.alloc();
+    let bytes = Vec::from_slice(alloc, b"check true;check false;")?;
+    let mut input = MemSource::new(bytes, 11, Vec::from_slice(alloc, &[2])?);
+    let mut out = sink(alloc, 200)?;
+    let mut err = sink(alloc, 200)?;
+    let status = run(alloc, &[], &mut input, &mut out, &mut err);
+    assert_eq!(rt; status.code(), 6);
+    assert_eq!(rt; out.bytes(), b"true\n".as_slice());
+    assert_eq!(rt; err.bytes(), b"lash: read fault\n".as_slice());
     Ok(())
 }
 

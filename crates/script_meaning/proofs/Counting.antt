@@ -4,7 +4,7 @@ use Rattle.lash_model.specs.Formulas.{Formula}
 use Rattle.formula_core.specs.Counts.{nodes_of, depth_of}
 use Rattle.script_grammar.specs.Views.{Relation, AtMost, Below, AtLeast, Above, Equal, Unequal, Quantifier, Exists, Forall}
 use Rattle.script_syntax.specs.Trees.{SignedShape, DeclarationShape}
-use Rattle.script_meaning.specs.Scopes.{Scope}
+use Rattle.script_names.specs.Scopes.{Scope}
 use Rattle.script_meaning.specs.Core.{compared, bound_all}
 use Rattle.script_meaning.specs.Counts.{compared_nodes, bound_nodes}
 

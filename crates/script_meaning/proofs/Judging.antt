@@ -1,14 +1,14 @@
 -- What is found of the atoms of formulas, from that of their parts.
 use Rattle.std.proofs.Common.{◌≡◌, List, [], ◌∷◌, refl, ap₂, ◌∙◌, sym, Bool, true, false, ◌||◌}
-use Rattle.std.specs.Prelude.{IfOk, Result, Ok, Err}
+use Rattle.std.specs.Prelude.{IfOk, Result, Ok, Err, Option, None}
 use Rattle.lash_model.specs.Formulas.{Linear, Formula, And, coefficient_sum}
 use Rattle.script_grammar.specs.Views.{Relation, AtMost, Below, AtLeast, Above, Equal, Unequal, Quantifier, Exists, Forall}
 use Rattle.script_syntax.specs.Trees.{SignedShape, DeclarationShape}
-use Rattle.script_meaning.specs.Scopes.{Scope}
-use Rattle.script_meaning.specs.Core.{compared, compared_atom, bound_all, truth}
-use Rattle.script_meaning.specs.Limits.{some_atom, coefficients_pass, constant_passes}
-use Rattle.script_meaning.specs.Passing.{IsAtomJudged, AreAtomsJudged, either_of}
-use Rattle.script_meaning.specs.declared.atoms.Passed.{Passed}
+use Rattle.script_names.specs.Scopes.{Scope}
+use Rattle.script_meaning.specs.Core.{compared, compared_atom, bound_all, called, truth}
+use Rattle.term_substitution.specs.Limits.{some_atom, coefficients_pass, constant_passes}
+use Rattle.term_substitution.specs.Passing.{IsAtomJudged, AreAtomsJudged, either_of}
+use Rattle.term_substitution.specs.declared.judging.Passed.{Passed}
 
 pub compared_some : (test : Linear → Bool) (scope : Scope) (a : List SignedShape) (r : Relation) (b : List SignedShape) → some_atom test (compared scope a r b) ≡ test (compared_atom scope a r b)
 compared_some test scope a AtMost b = refl
@@ -41,3 +41,7 @@ none_of_truth false = record { coefficients = refl; constant = refl }
 pub bound_answered : {E : Type 0} (r : Result Passed E) (q : Quantifier) (ds : List DeclarationShape) (f : Formula) → IfOk r (λ p. AreAtomsJudged p f) → IfOk r (λ p. AreAtomsJudged p (bound_all q ds f))
 bound_answered (Ok p) q ds f h = bound_judged p q ds f h
 bound_answered (Err e) q ds f h = tt
+
+-- no atom of a call without a formula passes a limit
+pub uncalled_judged : (o : Option Formula) (scope : Scope) (ts : List (List SignedShape)) → o ≡ None → AreAtomsJudged (record { coefficients = false; constant = false }) (called o scope ts)
+uncalled_judged o scope ts is = rw is (none_of_truth false)

@@ -1,8 +1,8 @@
-pub mod Lists
 pub mod Coefficients
 pub mod Counting
 pub mod Judging
-pub mod Declaring
-pub mod Fresh
+pub mod Placing
+pub mod Calling
 pub mod Valuing
 pub mod Connecting
+pub mod CallValues

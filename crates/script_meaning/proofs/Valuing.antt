@@ -9,7 +9,7 @@ use Rattle.lash_model.specs.Meaning.{total, holds}
 use Rattle.formula_core.proofs.Adding.{total_added}
 use Rattle.script_grammar.specs.Views.{Relation, AtMost, Below, AtLeast, Above, Equal, Unequal}
 use Rattle.script_syntax.specs.Trees.{PartShape, Constant, Scaled, Variable, SignedShape}
-use Rattle.script_meaning.specs.Scopes.{Scope, place_of}
+use Rattle.script_names.specs.Scopes.{Scope, place_of}
 use Rattle.script_meaning.specs.Core.{signed, turned, added_at, with_part, with_term, part_constant, constant_of, difference, compared}
 use Rattle.script_meaning.specs.Values.{entry_at, part_value, with_minus, value_of, Compares}
 
@@ -60,7 +60,7 @@ turned_false true = refl
 turned_false false = refl
 
 -- a term adds its value, but for its constants
-total_term : (scope : Scope) (ts : List (ℕ × ℤ)) (ss : List SignedShape) (ns : List ℤ) (d : ℕ) → total (with_term scope false ts ss) ns +ℤ (constant_of ss *ℤ pos d) ≡ total ts ns +ℤ value_of scope ns d ss
+pub total_term : (scope : Scope) (ts : List (ℕ × ℤ)) (ss : List SignedShape) (ns : List ℤ) (d : ℕ) → total (with_term scope false ts ss) ns +ℤ (constant_of ss *ℤ pos d) ≡ total ts ns +ℤ value_of scope ns d ss
 total_term scope ts [] ns d = omega (arith, ints, zero_times (pos d))
 total_term scope ts (s ∷ ss) ns d = rw (turned_false s.minus) (let rec = total_term scope (with_part scope ts s.minus s.part) ss ns d in omega (arith, ints, rec, total_part scope ts s.minus s.part ns d, sum_times (part_constant s.minus s.part) (constant_of ss) (pos d)))
 
@@ -70,7 +70,7 @@ total_turned scope ts [] ns d = omega (arith, ints, zero_times (pos d))
 total_turned scope ts (s ∷ ss) ns d = rw (turned_true s.minus) (let rec = total_turned scope (with_part scope ts (not s.minus) s.part) ss ns d in
     omega (arith, ints, rec, total_part scope ts (not s.minus) s.part ns d, minus_turned s.minus (part_value scope ns d s.part), ap (λ c. c *ℤ pos d) (constant_turned s.minus s.part), neg_times (part_constant s.minus s.part) (pos d), sum_times (part_constant s.minus s.part) (constant_of ss) (pos d)))
 
-none : (ns : List ℤ) → total [] ns ≡ pos 0
+pub none : (ns : List ℤ) → total [] ns ≡ pos 0
 unfolding total
 none ns = refl
 

@@ -1,10 +1,12 @@
 -- The core formula that a tree stands for.
-use Rattle.std.specs.Prelude.{ℕ, List, [], ◌∷◌, Bool, true, false, not, Option, None, Some, ℤ, pos, negsuc, neg_ℤ, ◌+ℤ◌, ◌-ℤ◌, if◌then◌else◌}
+use Rattle.std.specs.Prelude.{ℕ, nat_eq, List, [], ◌∷◌, length, map, Bool, true, false, not, Option, None, Some, ℤ, pos, negsuc, neg_ℤ, ◌+ℤ◌, ◌-ℤ◌, if◌then◌else◌}
 use Rattle.lash_model.specs.Formulas.{Sort, Linear, Formula, Le, Eq, Not as CoreNot, And as CoreAnd, Or as CoreOr, Exists as CoreExists}
 use Rattle.formula_core.specs.Terms.{added}
 use Rattle.script_grammar.specs.Views.{Relation, AtMost, Below, AtLeast, Above, Equal, Unequal, Quantifier, Exists, Forall}
 use Rattle.script_syntax.specs.Trees.{PartShape, Constant, Scaled, Variable, SignedShape, DeclarationShape, TreeShape, Truth, Compare, Call, Not, And, Or, Implies, Equivalent, Quantified}
-use Rattle.script_meaning.specs.Scopes.{Scope, place_of, with_declared}
+use Rattle.term_substitution.specs.Substitution.{substituted}
+use Rattle.script_names.specs.Kept.{KeptSet, kept_set}
+use Rattle.script_names.specs.Scopes.{Scope, place_of, with_declared}
 
 -- a number with its sign
 abbrev pub signed : Bool → ℕ → ℤ
@@ -89,14 +91,28 @@ abbrev pub bound_all : Quantifier → List DeclarationShape → Formula → Form
 bound_all q [] f = f
 bound_all q (d ∷ ds) f = bound q d.sort (bound_all q ds f)
 
--- no set is kept yet, so a call has no formula; its name is wrong
-abbrev pub core : Scope → TreeShape → Formula
-core scope (Truth b) = truth b
-core scope (Compare left relation right) = compared scope left relation right
-core scope (Call name ts) = truth false
-core scope (Not f) = CoreNot (core scope f)
-core scope (And f g) = CoreAnd (core scope f) (core scope g)
-core scope (Or f g) = CoreOr (core scope f) (core scope g)
-core scope (Implies f g) = CoreOr (CoreNot (core scope f)) (core scope g)
-core scope (Equivalent f g) = CoreAnd (CoreOr (CoreNot (core scope f)) (core scope g)) (CoreOr (CoreNot (core scope g)) (core scope f))
-core scope (Quantified q ds f) = bound_all q ds (core (with_declared scope ds) f)
+-- the term that an argument is
+abbrev pub argument : Scope → List SignedShape → Linear
+argument scope t = record { terms = with_term scope false [] t; constant = constant_of t }
+
+-- the formula of a kept set that has as many variables
+abbrev pub callee : Option KeptSet → ℕ → Option Formula
+callee None count = None
+callee (Some k) count = if nat_eq count (length k.vars) then Some k.formula else None
+
+-- a called set stands there with its formula at the arguments; a call whose name is wrong has no formula
+abbrev pub called : Option Formula → Scope → List (List SignedShape) → Formula
+called None scope ts = truth false
+called (Some f) scope ts = substituted f (map (argument scope) ts) (length scope)
+
+-- the core formula of a tree, where these sets are kept and these variables are in scope
+abbrev pub core : List KeptSet → Scope → TreeShape → Formula
+core kept scope (Truth b) = truth b
+core kept scope (Compare left relation right) = compared scope left relation right
+core kept scope (Call name ts) = called (callee (kept_set kept name.left) (length ts)) scope ts
+core kept scope (Not f) = CoreNot (core kept scope f)
+core kept scope (And f g) = CoreAnd (core kept scope f) (core kept scope g)
+core kept scope (Or f g) = CoreOr (core kept scope f) (core kept scope g)
+core kept scope (Implies f g) = CoreOr (CoreNot (core kept scope f)) (core kept scope g)
+core kept scope (Equivalent f g) = CoreAnd (CoreOr (CoreNot (core kept scope f)) (core kept scope g)) (CoreOr (CoreNot (core kept scope g)) (core kept scope f))
+core kept scope (Quantified q ds f) = bound_all q ds (core kept (with_declared scope ds) f)

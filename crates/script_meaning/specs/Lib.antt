@@ -1,10 +1,7 @@
-pub mod Scopes
-pub mod Faults
 pub mod Core
 pub mod Limits
-pub mod Passing
 pub mod Resolving
 pub mod Counts
-pub mod Answers
 pub mod Values
 pub use Rattle.script_syntax.specs.Trees
+pub use Rattle.script_names.specs.Faults

@@ -1,6 +1,5 @@
 -- The limits of a formula, in the order in which they are judged.
-use Rattle.std.specs.Prelude.{ℕ, ◌+◌, ◌^◌, Bool, false, ◌||◌, nat_lt, List, [], ◌∷◌, length, unsigned_abs}
-use Rattle.lash_model.specs.Formulas.{Linear, coefficient_sum, Formula, Le, Eq, Not as CoreNot, And as CoreAnd, Or as CoreOr, Exists as CoreExists}
+use Rattle.std.specs.Prelude.{ℕ, ◌+◌, ◌^◌, Bool, false, ◌||◌, nat_lt, List, [], ◌∷◌, length}
 use Rattle.script_syntax.specs.Trees.{PartShape, Constant, Scaled, Variable, SignedShape, TreeShape, Truth, Compare, Call, Not, And, Or, Implies, Equivalent, Quantified}
 
 -- the greatest number that a script may have
@@ -32,34 +31,16 @@ literal_passes (Implies f g) = literal_passes f || literal_passes g
 literal_passes (Equivalent f g) = literal_passes f || literal_passes g
 literal_passes (Quantified q ds f) = literal_passes f
 
-abbrev pub nodes_limit : ℕ
-nodes_limit = 4096
-
-abbrev pub depth_limit : ℕ
-depth_limit = 256
-
--- the magnitudes of an atom's coefficients sum to more than 2^24
-abbrev pub coefficients_pass : Linear → Bool
-coefficients_pass a = nat_lt (2 ^ 24) (coefficient_sum a.terms)
-
--- the magnitude of an atom's constant is more than 2^40
-abbrev pub constant_passes : Linear → Bool
-constant_passes a = nat_lt (2 ^ 40) (unsigned_abs a.constant)
-
--- some atom of the formula passes the test
-abbrev pub some_atom : (Linear → Bool) → Formula → Bool
-some_atom test (Le a) = test a
-some_atom test (Eq a) = test a
-some_atom test (CoreNot f) = some_atom test f
-some_atom test (CoreAnd f g) = some_atom test f || some_atom test g
-some_atom test (CoreOr f g) = some_atom test f || some_atom test g
-some_atom test (CoreExists s f) = some_atom test f
+-- how many parts terms have together
+abbrev pub parts_of : List (List SignedShape) → ℕ
+parts_of [] = 0
+parts_of (t ∷ ts) = length t + parts_of ts
 
 -- how many parts of terms and declared variables a tree has
 abbrev pub size_of : TreeShape → ℕ
 size_of (Truth b) = 0
 size_of (Compare a r b) = length a + length b
-size_of (Call name ts) = 0
+size_of (Call name ts) = parts_of ts
 size_of (Not f) = size_of f
 size_of (And f g) = size_of f + size_of g
 size_of (Or f g) = size_of f + size_of g

@@ -4,7 +4,7 @@ use Rattle.std.specs.Prelude.{◌≡◌, ℕ, List, [], ◌∷◌, Bool, Option,
 use Rattle.std.specs.List.{slice_index_or}
 use Rattle.script_grammar.specs.Views.{Relation, AtMost, Below, AtLeast, Above, Equal, Unequal}
 use Rattle.script_syntax.specs.Trees.{PartShape, Constant, Scaled, Variable, SignedShape}
-use Rattle.script_meaning.specs.Scopes.{Scope, place_of}
+use Rattle.script_names.specs.Scopes.{Scope, place_of}
 
 -- the entry at a place; names out of scope and places past the end count as 0
 abbrev pub entry_at : List ℤ → Option ℕ → ℤ

@@ -1,6 +1,7 @@
 //! Core formulas of trees. The tree is inside the limit of depth, as the caller has judged, so the recursion is no deeper than that.
 
 ghost use Rattle.std.specs.Prelude.{◌≡◌, ◌≤◌, ◌+◌, false, IfOk, length, map};
+ghost use Rattle.script_names.specs.Kept.{sets_of};
 ghost use Rattle.script_meaning.specs.Core.{compared_atom, claimed, bound, bound_all, core, truth as truth_of};
 ghost use Rattle.script_meaning.specs.Limits.{literal_passes, size_of, term_passes, terms_limit};
 ghost use Rattle.formula_core.specs.Shape.{formula_of};
@@ -8,11 +9,11 @@ ghost use Rattle.formula_core.specs.Variables.{sort_of};
 ghost use Rattle.lash_model.specs.Formulas as model;
 ghost use Rattle.script_syntax.specs.Trees.{declaration_of, quantifier_of, relation_of, term_of, tree_of};
 
-use crate::names::declare_all;
-use crate::scope::Scope;
+use crate::calls::call_formula;
 use crate::terms::difference;
 use formula_core::{Formula, Linear, Sort};
 use lash_io::Memory;
+use script_names::{Defs, Scope, declare_all};
 use script_syntax::{Declaration, Quantifier, Relation, Term, Tree};
 use std::alloc::Global;
 
@@ -48,7 +49,8 @@ fn boxed(alloc: Global, formula: Formula) -> Result<Box<Formula>, Memory>
     }
 }
 
-fn negation(alloc: Global, inner: Formula) -> Result<Formula, Memory>
+/// The negation of a formula.
+pub fn negation(alloc: Global, inner: Formula) -> Result<Formula, Memory>
     ensures { IfOk result (λ f. formula_of f ≡ model.Not (formula_of inner)) }
 {
     match boxed(alloc, inner) {
@@ -162,12 +164,13 @@ fn bindings(
 #[cycle(formulas)]
 pub fn core_formula<'a>(
     alloc: Global,
+    defs: &Defs,
     scope: &mut Scope<'a>,
     tree: &Tree<'a>,
 ) -> Result<Formula, Memory>
     requires literals { literal_passes (tree_of tree.now) ≡ false }
     requires size { length scope.old + size_of (tree_of tree.now) ≤ terms_limit }
-    ensures core { IfOk result (λ f. formula_of f ≡ core scope.old (tree_of tree.now)) }
+    ensures core { IfOk result (λ f. formula_of f ≡ core (sets_of defs.now) scope.old (tree_of tree.now)) }
     ensures scope { scope.new ≡ scope.old }
 {
     match tree {
@@ -178,26 +181,26 @@ pub fn core_formula<'a>(
                 Err(error) => Err(error),
             }
         }
-        Tree::Call(_, _) => Ok(truth(alloc, false)),
-        Tree::Not(inner) => match core_formula(alloc, scope, inner) {
+        Tree::Call(name, terms) => call_formula(alloc, defs, scope, name, terms),
+        Tree::Not(inner) => match core_formula(alloc, defs, scope, inner) {
             Ok(inner) => negation(alloc, inner),
             Err(error) => Err(error),
         },
-        Tree::And(left, right) => match core_pair(alloc, scope, left, right) {
+        Tree::And(left, right) => match core_pair(alloc, defs, scope, left, right) {
             Ok((left, right)) => conjunction(alloc, left, right),
             Err(error) => Err(error),
         },
-        Tree::Or(left, right) => match core_pair(alloc, scope, left, right) {
+        Tree::Or(left, right) => match core_pair(alloc, defs, scope, left, right) {
             Ok((left, right)) => disjunction(alloc, left, right),
             Err(error) => Err(error),
         },
-        Tree::Implies(left, right) => core_implication(alloc, scope, left, right),
+        Tree::Implies(left, right) => core_implication(alloc, defs, scope, left, right),
         Tree::Equivalent(left, right) => {
-            let there = match core_implication(alloc, scope, left, right) {
+            let there = match core_implication(alloc, defs, scope, left, right) {
                 Ok(there) => there,
                 Err(error) => return Err(error),
             };
-            match core_implication(alloc, scope, right, left) {
+            match core_implication(alloc, defs, scope, right, left) {
                 Ok(back) => conjunction(alloc, there, back),
                 Err(error) => Err(error),
             }
@@ -206,7 +209,7 @@ pub fn core_formula<'a>(
             let count = scope.len();
             // The names were judged before, so only memory can be wanting.
             let body = match declare_all(scope, declarations) {
-                Ok(()) => core_formula(alloc, scope, inner),
+                Ok(()) => core_formula(alloc, defs, scope, inner),
                 Err(_) => Err(Memory),
             };
             scope.leave(count);
@@ -221,6 +224,7 @@ pub fn core_formula<'a>(
 #[cycle(formulas)]
 fn core_pair<'a>(
     alloc: Global,
+    defs: &Defs,
     scope: &mut Scope<'a>,
     left: &Tree<'a>,
     right: &Tree<'a>,
@@ -228,15 +232,15 @@ fn core_pair<'a>(
     requires left_literals { literal_passes (tree_of left.now) ≡ false }
     requires right_literals { literal_passes (tree_of right.now) ≡ false }
     requires size { length scope.old + (size_of (tree_of left.now) + size_of (tree_of right.now)) ≤ terms_limit }
-    ensures left { IfOk result (λ p. formula_of p.0 ≡ core scope.old (tree_of left.now)) }
-    ensures right { IfOk result (λ p. formula_of p.1 ≡ core scope.old (tree_of right.now)) }
+    ensures left { IfOk result (λ p. formula_of p.0 ≡ core (sets_of defs.now) scope.old (tree_of left.now)) }
+    ensures right { IfOk result (λ p. formula_of p.1 ≡ core (sets_of defs.now) scope.old (tree_of right.now)) }
     ensures scope { scope.new ≡ scope.old }
 {
-    let left = match core_formula(alloc, scope, left) {
+    let left = match core_formula(alloc, defs, scope, left) {
         Ok(left) => left,
         Err(error) => return Err(error),
     };
-    match core_formula(alloc, scope, right) {
+    match core_formula(alloc, defs, scope, right) {
         Ok(right) => Ok((left, right)),
         Err(error) => Err(error),
     }
@@ -245,6 +249,7 @@ fn core_pair<'a>(
 #[cycle(formulas)]
 fn core_implication<'a>(
     alloc: Global,
+    defs: &Defs,
     scope: &mut Scope<'a>,
     left: &Tree<'a>,
     right: &Tree<'a>,
@@ -252,10 +257,10 @@ fn core_implication<'a>(
     requires left_literals { literal_passes (tree_of left.now) ≡ false }
     requires right_literals { literal_passes (tree_of right.now) ≡ false }
     requires size { length scope.old + (size_of (tree_of left.now) + size_of (tree_of right.now)) ≤ terms_limit }
-    ensures core { IfOk result (λ f. formula_of f ≡ model.Or (model.Not (core scope.old (tree_of left.now))) (core scope.old (tree_of right.now))) }
+    ensures core { IfOk result (λ f. formula_of f ≡ model.Or (model.Not (core (sets_of defs.now) scope.old (tree_of left.now))) (core (sets_of defs.now) scope.old (tree_of right.now))) }
     ensures scope { scope.new ≡ scope.old }
 {
-    match core_pair(alloc, scope, left, right) {
+    match core_pair(alloc, defs, scope, left, right) {
         Ok((left, right)) => implication(alloc, left, right),
         Err(error) => Err(error),
     }

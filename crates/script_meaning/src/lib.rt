@@ -2,21 +2,20 @@
 #![tactic(auto)]
 
 mod atoms;
+mod calls;
 mod counts;
 mod formulas;
 mod laws;
 mod limits;
 mod literals;
-mod names;
 mod resolving;
-mod scope;
 mod terms;
 
 pub use laws::{
-    comparisons_compare_values, connectives_mean_themselves, limits_exclude_each_other,
+    calls_ask_the_kept_set, comparisons_compare_values, connectives_mean_themselves,
+    limits_exclude_each_other,
 };
 pub use limits::Which;
-pub use names::{FaultAt, NameFault};
 pub use resolving::{Refusal, Resolved, resolve};
 
 #[cfg(test)]

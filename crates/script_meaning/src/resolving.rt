@@ -4,25 +4,24 @@
 ghost use Rattle.std.specs.Prelude.{◌≡◌, ◌≤◌, ◌<◌, ◌+◌, All, IfOk, length, map, [], None};
 ghost use Rattle.formula_core.specs.Names.{IsVariableName};
 ghost use Rattle.script_syntax.specs.Trees.{declaration_of, tree_of};
-ghost use Rattle.script_meaning.specs.Scopes.{variable_of, with_declared};
+ghost use Rattle.script_names.specs.Kept.{sets_of};
 ghost use Rattle.script_meaning.specs.Limits.{literal_passes, size_of, terms_limit};
 ghost use Rattle.script_meaning.specs.Resolving.{IsResolved, IsBuilt, IsLettered, IsNamed, atom_passed, first_passed};
 ghost use Rattle.script_meaning.specs.Core.{core};
-ghost use Rattle.script_meaning.specs.Faults.{declared_fault};
 ghost use Rattle.formula_core.specs.Shape.{formula_of};
 
-use crate::atoms::{Passed, judge_atoms};
+use crate::atoms::judge_atoms;
 use crate::counts::{depth, nodes};
 use crate::formulas::core_formula;
 use crate::limits::Which;
 use crate::literals::has_great_literal;
-use crate::names::{FaultAt, NameError, check_names, declare_all};
-use crate::scope::Scope;
 use digit_codes::Base;
 use formula_core::{Formula, Vars, are_few, fits_letters};
 use lash_io::Memory;
+use script_names::{Defs, FaultAt, NameError, Scope, check_names, declare_all, variables};
 use script_syntax::{Declaration, Tree};
 use std::alloc::Global;
+use term_substitution::Passed;
 
 /// Declared variables and a core formula over them.
 #[derive(Debug, Drop)]
@@ -41,8 +40,9 @@ pub enum Refusal {
     Memory,
 }
 
-/// The variables and the core formula of a set of a script. Conditions: the declared names are variables' names, and there are at most
-/// 65,536 declarations and parts of terms together.
+/// The variables and the core formula of a set of a script, where these sets are kept. `full` says that the set is to be kept, and that one
+/// more would be too many. Conditions: the declared names are variables' names, and there are at most 65,536 declarations and parts of terms
+/// together.
 ///
 /// # Errors
 /// `Fault` at the first wrong name from left to right. `Limit`, where all names are right, with the first limit in the order of `Which` that
@@ -50,21 +50,23 @@ pub enum Refusal {
 pub fn resolve<'a>(
     alloc: Global,
     base: Base,
+    defs: &Defs,
+    full: bool,
     vars: &[Declaration<'a>],
     formula: &Tree<'a>,
 ) -> Result<Resolved, Refusal>
     requires named { All (λ d. IsVariableName (declaration_of d).name.left) vars.now }
     requires size { length vars.now + size_of (tree_of formula.now) ≤ terms_limit }
-    ensures { IsResolved base (map declaration_of vars.now) (tree_of formula.now) result }
+    ensures { IsResolved full base (sets_of defs.now) (map declaration_of vars.now) (tree_of formula.now) result }
 {
     let mut scope = Scope::new(alloc);
-    match named(&mut scope, vars, formula) {
+    match named(defs, &mut scope, vars, formula) {
         Ok(()) => {}
         Err(NameError::Fault(fault)) => return Err(Refusal::Fault(fault)),
         Err(NameError::Memory) => return Err(Refusal::Memory),
     }
-    match built(alloc, base, &mut scope, formula) {
-        Ok(formula) => match listed(alloc, vars) {
+    match built(alloc, base, defs, full, &mut scope, formula) {
+        Ok(formula) => match variables(alloc, vars) {
             Ok(vars) => Ok(Resolved { vars, formula }),
             Err(_) => Err(Refusal::Memory),
         },
@@ -74,15 +76,16 @@ pub fn resolve<'a>(
 
 // Judges all the names. The variables are in scope afterwards.
 fn named<'a>(
+    defs: &Defs,
     scope: &mut Scope<'a>,
     vars: &[Declaration<'a>],
     formula: &Tree<'a>,
 ) -> Result<(), NameError>
     requires { scope.old ≡ [] }
-    ensures { IsNamed (map declaration_of vars.now) (tree_of formula.now) scope.new result }
+    ensures { IsNamed (sets_of defs.now) (map declaration_of vars.now) (tree_of formula.now) scope.new result }
 {
     match declare_all(scope, vars) {
-        Ok(()) => check_names(scope, formula),
+        Ok(()) => check_names(defs, scope, formula),
         Err(error) => Err(error),
     }
 }
@@ -90,23 +93,28 @@ fn named<'a>(
 // The first limit that is passed, the letters left out of account. The scope is afterwards as it was.
 fn static_limit<'a>(
     alloc: Global,
+    defs: &Defs,
+    full: bool,
     scope: &mut Scope<'a>,
     formula: &Tree<'a>,
 ) -> Result<Option<Which>, Memory>
     requires { length scope.old + size_of (tree_of formula.now) ≤ terms_limit }
-    ensures limit { IfOk result (λ which. which ≡ first_passed (tree_of formula.now) (core scope.old (tree_of formula.now))) }
+    ensures limit { IfOk result (λ which. which ≡ first_passed full (tree_of formula.now) (core (sets_of defs.now) scope.old (tree_of formula.now))) }
     ensures scope { scope.new ≡ scope.old }
 {
     if has_great_literal(formula) {
         return Ok(Some(Which::Literal));
     }
-    if nodes(formula) > NODES_LIMIT {
+    if full {
+        return Ok(Some(Which::Sets));
+    }
+    if nodes(defs, formula) > NODES_LIMIT {
         return Ok(Some(Which::Nodes));
     }
-    if depth(formula) > DEPTH_LIMIT {
+    if depth(defs, formula) > DEPTH_LIMIT {
         return Ok(Some(Which::Depth));
     }
-    match judge_atoms(alloc, scope, formula) {
+    match judge_atoms(alloc, defs, scope, formula) {
         Ok(passed) => Ok(atom_limit(passed)),
         Err(error) => Err(error),
     }
@@ -133,13 +141,15 @@ fn atom_limit(passed: Passed) -> Option<Which>
 fn built<'a>(
     alloc: Global,
     base: Base,
+    defs: &Defs,
+    full: bool,
     scope: &mut Scope<'a>,
     formula: &Tree<'a>,
 ) -> Result<Formula, Refusal>
     requires { length scope.old + size_of (tree_of formula.now) ≤ terms_limit }
-    ensures { IsBuilt base scope.old (tree_of formula.now) result }
+    ensures { IsBuilt full base (sets_of defs.now) scope.old (tree_of formula.now) result }
 {
-    match static_limit(alloc, scope, formula) {
+    match static_limit(alloc, defs, full, scope, formula) {
         Ok(None) => {}
         Ok(Some(which)) => return Err(Refusal::Limit(which)),
         Err(_) => return Err(Refusal::Memory),
@@ -149,7 +159,7 @@ fn built<'a>(
     if !are_few(base.radix(), places) {
         return Err(Refusal::Limit(Which::Letters));
     }
-    match core_formula(alloc, scope, formula) {
+    match core_formula(alloc, defs, scope, formula) {
         Ok(core) => lettered(base, places, core),
         Err(_) => Err(Refusal::Memory),
     }
@@ -164,20 +174,4 @@ fn lettered(base: Base, places: u32, formula: Formula) -> Result<Formula, Refusa
     } else {
         Err(Refusal::Limit(Which::Letters))
     }
-}
-
-// The list of the variables, none of which is repeated.
-fn listed(alloc: Global, declarations: &[Declaration<'_>]) -> Result<Vars, Memory>
-    requires named { All (λ d. IsVariableName (declaration_of d).name.left) declarations.now }
-    requires fresh { declared_fault [] (map declaration_of declarations.now) ≡ None }
-    ensures { IfOk result (λ vars. vars ≡ with_declared [] (map declaration_of declarations.now)) }
-{
-    let mut vars = Vars::new(alloc);
-    for declaration in declarations {
-        match vars.add(declaration.name.bytes, declaration.sort) {
-            Ok(()) => {}
-            Err(error) => return Err(error),
-        }
-    }
-    Ok(vars)
 }

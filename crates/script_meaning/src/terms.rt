@@ -3,13 +3,13 @@
 ghost use Rattle.std.specs.Prelude.{◌≡◌, ◌≤◌, ◌<◌, ◌+◌, ◌*◌, ◌^◌, false, true, IfOk, OnOk, length, unsigned_abs};
 ghost use Rattle.lash_model.specs.Formulas.{coefficient_sum};
 ghost use Rattle.script_meaning.specs.Core.{signed, turned, part_constant, constant_of, difference as atom_of, added_at, with_part, with_term};
-ghost use Rattle.script_meaning.specs.Scopes.{place_of};
+ghost use Rattle.script_names.specs.Scopes.{place_of};
 ghost use Rattle.script_meaning.specs.Limits.{part_passes, term_passes, terms_limit};
 ghost use Rattle.script_syntax.specs.Trees.{named_of, part_of, signed_of, term_of};
 
-use crate::scope::Scope;
 use formula_core::Linear;
 use lash_io::Memory;
+use script_names::Scope;
 use script_syntax::{NameAt, Part, Signed, Term};
 use std::alloc::Global;
 
@@ -38,8 +38,8 @@ fn constant_part(signed: &Signed<'_>) -> i128
     }
 }
 
-// The sum of the constants of a term.
-fn constant(term: &Term<'_>) -> i128
+/// The sum of the constants of a term.
+pub fn constant(term: &Term<'_>) -> i128
     requires literals { term_passes (term_of term.now) ≡ false }
     requires count { length term.now.parts.items ≤ terms_limit }
     ensures value { result ≡ constant_of (term_of term.now) }
@@ -96,8 +96,13 @@ fn add_part(
     }
 }
 
-// Adds the coefficients of a term; where the side is turned they are taken away.
-fn add_term(scope: &Scope<'_>, atom: &mut Linear, term: &Term<'_>, turn: bool) -> Result<(), Memory>
+/// Adds the coefficients of a term; where the side is turned they are taken away.
+pub fn add_term(
+    scope: &Scope<'_>,
+    atom: &mut Linear,
+    term: &Term<'_>,
+    turn: bool,
+) -> Result<(), Memory>
     requires scope { length scope.now ≤ terms_limit }
     requires sum { coefficient_sum atom.old.terms ≤ terms_limit * 2 ^ 64 }
     requires literals { term_passes (term_of term.now) ≡ false }

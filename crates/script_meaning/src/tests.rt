@@ -1,28 +1,43 @@
 //! Names, limits and core formulas of scripts. The expected answers are those of the reference implementation, and the formulas are
 //! worked out by hand.
 
-ghost use Rattle.std.specs.Prelude.{◌≡◌, min};
+ghost use Rattle.std.specs.Prelude.{◌≡◌, ◌≤◌, ◌<◌, ◌^◌, All, IfOk, IsTrue, length, map, min, unsigned_abs};
 ghost use Rattle.formula_core.specs.Counts.{count_limit};
-ghost use Rattle.script_meaning.specs.Limits.{size_of};
-ghost use Rattle.script_syntax.specs.Trees.{tree_of};
+ghost use Rattle.formula_core.specs.Shape.{formula_of};
+ghost use Rattle.script_meaning.specs.Limits.{parts_of, size_of};
+ghost use Rattle.script_syntax.specs.Trees.{term_of, tree_of};
+ghost use Rattle.term_substitution.specs.Conditions.{IsOver, IsTermOver};
 
 use super::*;
 use crate::counts::nodes;
-use crate::names::{NameError, check_names, declare_all};
-use crate::scope::Scope;
 use digit_codes::Base;
-use formula_core::{Formula, Sort};
-use script_syntax::{Cursor, Tree};
-use script_tokens::{Kind, Placed, tokens};
+use formula_core::{Formula, Linear, Sort, Vars};
+use lash_io::Memory;
+use script_names::{Defs, FaultAt, Name, NameFault};
+use script_syntax::{Cursor, Term, Tree};
+use script_tokens::{Placed, tokens};
 use std::alloc::Global;
 use std::test::Fail;
+use term_substitution::Passed;
 
-// How many parts of terms and declared variables a tree has.
+// How many parts terms have, or more.
+fn parts(terms: &[Term<'_>]) -> u64
+    ensures { min (parts_of (map term_of terms.now)) count_limit ≤ result }
+{
+    match terms {
+        [] => 0,
+        [term] => term.parts.len() as u64,
+        _ => u64::MAX,
+    }
+}
+
+// How many parts of terms and declared variables a tree has, or more.
 fn size(tree: &Tree<'_>) -> u64
-    ensures { result ≡ min (size_of (tree_of tree.now)) count_limit }
+    ensures { min (size_of (tree_of tree.now)) count_limit ≤ result }
 {
     match tree {
-        Tree::Truth(_) | Tree::Call(_, _) => 0,
+        Tree::Truth(_) => 0,
+        Tree::Call(_, terms) => parts(terms),
         Tree::Compare(left, _, right) => {
             (left.parts.len() as u64).saturating_add(right.parts.len() as u64)
         }
@@ -46,25 +61,35 @@ fn read<'a>(alloc: Global, tokens: &'a [Placed<'a>]) -> Option<Tree<'a>> {
 }
 
 // What a formula over no variables, of at most 100 parts, is resolved to in base 2; its first byte is byte 6 of the script.
-fn resolved(alloc: Global, text: &[u8]) -> Option<Result<Resolved, Refusal>> {
+fn resolved_with(alloc: Global, defs: &Defs, text: &[u8]) -> Option<Result<Resolved, Refusal>> {
     let placed = tokens(alloc, text, 6).ok()?;
     let tree = read(alloc, &placed)?;
     let base = Base::new(2)?;
     if size(&tree) > 100 {
         return None;
     }
-    Some(resolve(alloc, base, &[], &tree))
+    Some(resolve(alloc, base, defs, false, &[], &tree))
+}
+
+// The same where no sets are kept.
+fn resolved(alloc: Global, text: &[u8]) -> Option<Result<Resolved, Refusal>> {
+    let defs = Defs::new(alloc);
+    resolved_with(alloc, &defs, text)
 }
 
 fn is_within(alloc: Global, text: &[u8]) -> bool {
     matches!(resolved(alloc, text), Some(Ok(_)))
 }
 
-fn passes(alloc: Global, text: &[u8], which: Which) -> bool {
-    match resolved(alloc, text) {
-        Some(Err(Refusal::Limit(limit))) => limit == which,
+fn is_limit(found: &Option<Result<Resolved, Refusal>>, which: Which) -> bool {
+    match found {
+        Some(Err(Refusal::Limit(limit))) => *limit == which,
         _ => false,
     }
+}
+
+fn passes(alloc: Global, text: &[u8], which: Which) -> bool {
+    is_limit(&resolved(alloc, text), which)
 }
 
 fn is_faulty(alloc: Global, text: &[u8], fault: NameFault, place: u64) -> bool {
@@ -72,52 +97,6 @@ fn is_faulty(alloc: Global, text: &[u8], fault: NameFault, place: u64) -> bool {
         Some(Err(Refusal::Fault(found))) => found == FaultAt { fault, place },
         _ => false,
     }
-}
-
-// The first wrong name of a set whose header begins at byte 5.
-fn header_fault(alloc: Global, text: &[u8]) -> Option<FaultAt> {
-    let placed = tokens(alloc, text, 5).ok()?;
-    let mut cursor = Cursor::new(&placed);
-    let vars = cursor.header(alloc).ok()?;
-    cursor.expect(Kind::Colon).ok()?;
-    let tree = cursor.formula(alloc, 256).ok()?;
-    let mut scope = Scope::new(alloc);
-    let names = match declare_all(&mut scope, &vars) {
-        Ok(()) => check_names(&mut scope, &tree),
-        Err(error) => Err(error),
-    };
-    match names {
-        Err(NameError::Fault(fault)) => Some(fault),
-        _ => None,
-    }
-}
-
-fn is_header_fault(alloc: Global, text: &[u8], fault: NameFault, place: u64) -> bool {
-    header_fault(alloc, text) == Some(FaultAt { fault, place })
-}
-
-#[test]
-fn wrong_names_have_their_places(rt: HostRuntime) -> Result<(), Fail> {
-    let alloc = rt.alloc();
-    assert!(rt; is_header_fault(alloc, b"(x int): x <= y", NameFault::Unknown, 19));
-    assert!(rt; is_header_fault(alloc, b"(x int, x int): x <= 1", NameFault::Repeated, 13));
-    assert!(rt;
-        is_header_fault(
-            alloc,
-            b"(x int): exists x int: x <= 1",
-            NameFault::Repeated,
-            21
-        )
-    );
-    assert!(rt;
-        is_header_fault(
-            alloc,
-            b"(x int): x <= 1 and y <= 1 or z <= 1",
-            NameFault::Unknown,
-            25
-        )
-    );
-    Ok(())
 }
 
 #[test]
@@ -222,7 +201,8 @@ fn letters_of_bound_variables(rt: HostRuntime) -> Result<(), Fail> {
 fn nodes_of_text(alloc: Global, text: &[u8]) -> Option<u64> {
     let placed = tokens(alloc, text, 0).ok()?;
     let tree = read(alloc, &placed)?;
-    Some(nodes(&tree))
+    let defs = Defs::new(alloc);
+    Some(nodes(&defs, &tree))
 }
 
 // From n nodes `<-> true` makes 2n + 7: 1, 9, 25, and so on up to 4,089 and 8,185.
@@ -340,5 +320,99 @@ fn comparisons_become_atoms(rt: HostRuntime) -> Result<(), Fail> {
         )
     );
     assert!(rt; has_body(alloc, b"exists x int, y int: x + y > x", true, &[(1, 1)], 0));
+    Ok(())
+}
+
+// One integer x.
+fn one_variable(alloc: Global) -> Result<Vars, Memory>
+    ensures { IfOk result (λ vars. length vars ≡ 1) }
+{
+    let mut vars = Vars::new(alloc);
+    match vars.add(b"x", Sort::Int) {
+        Ok(()) => Ok(vars),
+        Err(error) => Err(error),
+    }
+}
+
+// Keeps the set of the integers x of which the formula holds.
+fn keep(alloc: Global, defs: &mut Defs, name: &[u8], formula: Formula) -> Option<()>
+    requires { IsOver 1 (formula_of formula) }
+{
+    if formula_core::nodes(&formula) > 4096 || formula_core::depth(&formula) > 256 {
+        return None;
+    }
+    if defs.len() >= 1024 || defs.place(name).is_some() {
+        return None;
+    }
+    let name = Name::new(alloc, name).ok()?;
+    let vars = one_variable(alloc).ok()?;
+    defs.keep(name, vars, formula).ok()
+}
+
+// 2*x <= 5.
+fn small_atom(alloc: Global) -> Result<Linear, Memory> {
+    let mut atom = Linear::new(alloc, 5);
+    match atom.add(0, 2) {
+        Ok(()) => Ok(atom),
+        Err(error) => Err(error),
+    }
+}
+
+// Whether all the places are below the number.
+fn are_below(parts: &[(u32, i128)], places: u32) -> bool
+    ensures { IsTrue result → All (λ t. t.0 < places) parts.now }
+{
+    parts.iter().all(|part| part.0 < places)
+}
+
+// Whether an atom is one of x, inside the limits.
+fn is_small(atom: &Linear) -> bool
+    ensures { IsTrue result → IsTermOver 1 atom.now }
+{
+    let passed = Passed::of(atom);
+    are_below(atom.terms(), 1) && !passed.coefficients && !passed.constant
+}
+
+// F of `2*x <= 5`.
+fn kept_atom(alloc: Global) -> Option<Defs> {
+    let mut defs = Defs::new(alloc);
+    let atom = small_atom(alloc).ok()?;
+    if !is_small(&atom) {
+        return None;
+    }
+    keep(alloc, &mut defs, b"F", Formula::Le(atom))?;
+    Some(defs)
+}
+
+// F(3*y - z + 1) is 6*y - 2*z <= 3.
+#[test]
+fn calls_are_replaced(rt: HostRuntime) -> Result<(), Fail> {
+    let alloc = rt.alloc();
+    let defs = kept_atom(alloc).ok_or("no memory")?;
+    let found = resolved_with(alloc, &defs, b"exists y int, z int: F(3*y - z + 1)");
+    match found {
+        Some(Ok(set)) => {
+            assert!(rt; is_bound_twice(&set.formula, false, &[(0, 6), (1, -2)], 3));
+        }
+        _ => return Err("it is refused".into()),
+    }
+    Ok(())
+}
+
+// The limits are those of 2*(8388608*y) <= 5, and so on.
+#[test]
+fn calls_are_replaced_before_limits(rt: HostRuntime) -> Result<(), Fail> {
+    let alloc = rt.alloc();
+    let defs = kept_atom(alloc).ok_or("no memory")?;
+    let found = resolved_with(alloc, &defs, b"exists y int: F(8388608*y)");
+    assert!(rt; matches!(found, Some(Ok(_))));
+    let found = resolved_with(alloc, &defs, b"exists y int: F(8388609*y)");
+    assert!(rt; is_limit(&found, Which::Coefficient));
+    let found = resolved_with(alloc, &defs, b"F(549755813890)");
+    assert!(rt; matches!(found, Some(Ok(_))));
+    let found = resolved_with(alloc, &defs, b"F(549755813891)");
+    assert!(rt; is_limit(&found, Which::Constant));
+    let found = resolved_with(alloc, &defs, b"F(18446744073709551617)");
+    assert!(rt; is_limit(&found, Which::Literal));
     Ok(())
 }

@@ -1,19 +1,21 @@
--- The variables that a `show` declares have names of variables.
-use Rattle.std.proofs.Common.{◌≡◌, List, [], ◌∷◌, ◌++◌, subst, inl}
+-- The variables that a set declares have names of variables.
+use Rattle.std.proofs.Common.{List, [], ◌∷◌, ◌++◌, inl}
 use Rattle.std.specs.List.{All, AllByRecursion}
 use Rattle.std.proofs.lemmas.List.Elements.{All-from_recursion}
 use Rattle.parser_laws.specs.Parsing.{Either, first, other, Lang, both, items, perhaps}
 use Rattle.formula_core.specs.Names.{IsVariableName}
+use Rattle.script_tokens.specs.declared.kind.Kind.{Kind}
 use Rattle.script_tokens.specs.declared.kind.Kind.TheVariants as kind
 use Rattle.script_tokens.specs.Tokens.{PlacedToken}
 use Rattle.script_tokens.specs.Naming.{AreNamed}
 use Rattle.script_grammar.specs.Views.{is, is_name, sign, at}
 use Rattle.script_grammar.specs.Terms.{declaration, declarations}
 use Rattle.script_grammar.specs.Formulas.{form_toks}
-use Rattle.script_grammar.specs.Statements.{header, whole_statement, Statement}
+use Rattle.script_grammar.specs.Statements.{header}
 use Rattle.script_syntax.specs.Reading.{folded}
 use Rattle.script_syntax.specs.Trees.{DeclarationShape, add_declaration, declaration_shape, declarations_shape, perhaps_declared, header_shape}
-use Rattle.script_statements.specs.Statements.{ComprehensionShape, Described, Show, statement_shape, described_shape}
+use Rattle.script_statements.specs.Statements.{Described, described_shape}
+use Rattle.script_parse.proofs.Sizes.{described_toks}
 
 abbrev IsFine : DeclarationShape → Type 0
 IsFine d = IsVariableName d.name.left
@@ -47,17 +49,6 @@ perhaps_named (other x) h = tt
 header_named : (x : header.Tree) → AreNamed (header.toks x) → AllByRecursion IsFine (header_shape x)
 header_named x h = perhaps_named x.right.left (front (perhaps_declarations.toks x.right.left) (at kind.Close x.right.right ∷ []) h.1)
 
-described_named : (x : Described) → AreNamed (header.toks x.left ++ (at kind.Colon x.right.left ∷ (form_toks x.right.right.left ++ at kind.Semicolon x.right.right.right ∷ []))) → All (λ d. IsVariableName d.name.left) (described_shape x).vars
-described_named x h = All-from_recursion IsFine (header_shape x.left) (header_named x.left (front (header.toks x.left) (at kind.Colon x.right.left ∷ (form_toks x.right.right.left ++ at kind.Semicolon x.right.right.right ∷ [])) h))
-
--- where the name tokens of a `show` hold names, the variables that it declares have names of variables
-pub declared_are_named : (a : Statement) (c : ComprehensionShape) → statement_shape a ≡ Show c → AreNamed (whole_statement.toks a) → All (λ d. IsVariableName d.name.left) c.vars
-declared_are_named (first x) c e h = let f : described_shape x.right ≡ c = cc in subst (λ (c : ComprehensionShape). All (λ d. IsVariableName d.name.left) c.vars) f (described_named x.right h.1)
-declared_are_named (other (first x)) c e h = absurd (cc)
-declared_are_named (other (other (first x))) c e h = absurd (cc)
-declared_are_named (other (other (other (first x)))) c e h = absurd (cc)
-declared_are_named (other (other (other (other (first x))))) c e h = absurd (cc)
-declared_are_named (other (other (other (other (other (first x)))))) c e h = absurd (cc)
-declared_are_named (other (other (other (other (other (other (first x))))))) c e h = absurd (cc)
-declared_are_named (other (other (other (other (other (other (other (first x)))))))) c e h = absurd (cc)
-declared_are_named (other (other (other (other (other (other (other (other x)))))))) c e h = absurd (cc)
+-- where the name tokens hold names, the variables that are declared have names of variables
+pub described_named : (k : Kind) (x : Described) → AreNamed (described_toks k x) → All (λ d. IsVariableName d.name.left) (described_shape x).vars
+described_named k x h = All-from_recursion IsFine (header_shape x.left) (header_named x.left (front (header.toks x.left) (at k x.right.left ∷ (form_toks x.right.right.left ++ at kind.Semicolon x.right.right.right ∷ [])) h))

@@ -1,4 +1,4 @@
--- A rest without a whole statement has no semicolon among its tokens, and each whole statement that shows a set has one.
+-- A rest without a whole statement has no semicolon among its tokens, and each whole statement has one.
 use Rattle.std.proofs.Common.{◌≡◌, ℕ, zero, suc, ◌+◌, List, [], ◌∷◌, ◌++◌, length, take, drop, Bool, true, false, cond, not, ◌&&◌, ◌||◌, nat_eq, arith, refl, sym, ap, ◌∙◌, subst, Option, None, Some}
 use Rattle.std.specs.Prelude.{is_some}
 use Rattle.std.specs.Option.{option_map}
@@ -16,8 +16,10 @@ use Rattle.script_tokens.specs.Tokens.{PlacedToken}
 use Rattle.script_tokens.specs.Lexing.{is_blank, word_token, blank_length, keyword_in, sign_in, Lexeme, lexeme, is_bad, word_lexeme, number_lexeme, sign_lexeme, after_blanks, lexed, tokens_of}
 use Rattle.script_grammar.specs.Views.{is_kind, same_kind, at}
 use Rattle.script_grammar.specs.Formulas.{form_toks}
-use Rattle.script_grammar.specs.Statements.{whole_statement, Statement, header}
-use Rattle.script_statements.specs.Statements.{ComprehensionShape, Show, statement_shape}
+use Rattle.script_grammar.specs.Terms.{declarations}
+use Rattle.script_grammar.specs.Statements.{whole_statement, Statement, header, values, guard, assigns, turn}
+use Rattle.script_statements.specs.Statements.{Described}
+use Rattle.script_parse.proofs.Sizes.{described_toks}
 use Rattle.script_pieces.specs.Cuts.{statement_length}
 
 -- some token is a semicolon
@@ -203,14 +205,21 @@ ends_behind (x ∷ xs) ys e = by (is_kind kind.Semicolon x.token) (ends_behind x
     by true e = refl
     by false e = e
 
--- the tokens of a statement that shows a set have one
-pub show_has_one : (a : Statement) (c : ComprehensionShape) → statement_shape a ≡ Show c → ends (whole_statement.toks a) ≡ true
-show_has_one (first x) c e = ends_behind (header.toks x.right.left) (at kind.Colon x.right.right.left ∷ (form_toks x.right.right.right.left ++ at kind.Semicolon x.right.right.right.right ∷ [])) (ends_behind (form_toks x.right.right.right.left) (at kind.Semicolon x.right.right.right.right ∷ []) refl)
-show_has_one (other (first x)) c e = absurd (cc)
-show_has_one (other (other (first x))) c e = absurd (cc)
-show_has_one (other (other (other (first x)))) c e = absurd (cc)
-show_has_one (other (other (other (other (first x))))) c e = absurd (cc)
-show_has_one (other (other (other (other (other (first x)))))) c e = absurd (cc)
-show_has_one (other (other (other (other (other (other (first x))))))) c e = absurd (cc)
-show_has_one (other (other (other (other (other (other (other (first x)))))))) c e = absurd (cc)
-show_has_one (other (other (other (other (other (other (other (other x)))))))) c e = absurd (cc)
+described_ends : (k : Kind) (x : Described) → ends (described_toks k x) ≡ true
+described_ends k x = ends_behind (header.toks x.left) (at k x.right.left ∷ (form_toks x.right.right.left ++ at kind.Semicolon x.right.right.right ∷ [])) (ends_behind (at k x.right.left ∷ []) (form_toks x.right.right.left ++ at kind.Semicolon x.right.right.right ∷ []) (ends_behind (form_toks x.right.right.left) (at kind.Semicolon x.right.right.right ∷ []) refl))
+
+-- a turn of a loop ends with one
+turn_ends : (x : turn.Tree) → ends (turn.toks x) ≡ true
+turn_ends x = ends_behind (guard.toks x.left) (at kind.Do x.right.left ∷ (assigns.toks x.right.right.left ++ at kind.Semicolon x.right.right.right ∷ [])) (ends_behind (assigns.toks x.right.right.left) (at kind.Semicolon x.right.right.right ∷ []) refl)
+
+-- the tokens of a whole statement have one
+pub statement_has_one : (a : Statement) → ends (whole_statement.toks a) ≡ true
+statement_has_one (first x) = described_ends kind.Colon x.right
+statement_has_one (other (first x)) = described_ends kind.Equals x.right.right
+statement_has_one (other (other (first x))) = refl
+statement_has_one (other (other (other (first x)))) = refl
+statement_has_one (other (other (other (other (first x))))) = ends_behind (values.toks x.right.right.right.left) (at kind.Close x.right.right.right.right.left ∷ at kind.Semicolon x.right.right.right.right.right ∷ []) refl
+statement_has_one (other (other (other (other (other (first x)))))) = refl
+statement_has_one (other (other (other (other (other (other (first x))))))) = refl
+statement_has_one (other (other (other (other (other (other (other (first x)))))))) = ends_behind (form_toks x.right.left) (at kind.Semicolon x.right.right ∷ []) refl
+statement_has_one (other (other (other (other (other (other (other (other x)))))))) = ends_behind (declarations.toks x.right.right.right.left) (at kind.Close x.right.right.right.right.left ∷ (at kind.When x.right.right.right.right.right.left ∷ turn.toks x.right.right.right.right.right.right)) (turn_ends x.right.right.right.right.right.right)

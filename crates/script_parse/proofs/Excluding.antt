@@ -1,21 +1,20 @@
 -- Tokens have no two answers but for want of memory.
-use Rattle.std.proofs.Common.{◌≡◌, ℕ, List, length, inl, inr, true, false, refl, sym, ap, ◌∙◌, subst, Some}
+use Rattle.std.proofs.Common.{◌≡◌, ℕ, List, inl, inr, true, false, refl, sym, ap, ◌∙◌, subst}
 use Rattle.std.specs.Prelude.{◌⊎◌}
 use Rattle.std.proofs.lemmas.Bool.{true≢false}
-use Rattle.parser_laws.proofs.Parts.{same_some, not_none}
 use Rattle.script_tokens.specs.Tokens.{PlacedToken}
-use Rattle.script_statements.specs.Statements.{ComprehensionShape, statement_shape, Show}
+use Rattle.script_statements.specs.Statements.{StatementShape, statement_shape}
 use Rattle.script_statements.specs.Outcomes.{Outcome, Whole, Wrong, Deep, IsOutcome}
 use Rattle.script_statements.proofs.WholeStatements.{one}
-use Rattle.script_meaning.specs.Faults.{shown_fault}
-use Rattle.script_meaning.specs.declared.limits.Which.{Which}
+use Rattle.script_names.specs.Kept.{KeptSet}
 use Rattle.script_meaning.specs.declared.limits.Which.TheVariants.{Nesting}
-use Rattle.script_meaning.specs.declared.names.FaultAt.{FaultAt}
-use Rattle.script_meaning.proofs.Connecting.{within_or_passed, one_passed}
+use Rattle.script_meaning.specs.declared.resolving.Refusal.{Refusal}
+use Rattle.script_meaning.specs.declared.resolving.Refusal.TheVariants.{Fault, Limit as Passed, Memory as Wanting}
+use Rattle.statement_meaning.specs.Judging.{IsJudged, IsLimited, IsStatementRefused, statement_fault}
+use Rattle.statement_meaning.specs.declared.statement.Statement.{Statement as DeclaredStatement}
+use Rattle.statement_meaning.proofs.Excluding.{refusals_are_one as one_refusal, judged_or_refused}
 use Rattle.script_parse.specs.Unbuilt.{has_unbuilt}
-use Rattle.script_parse.specs.Answers.{OfSet, IsLimited, IsSetRefused, AreRefused, Shows, place_at, set_of, core_of}
-use Rattle.script_parse.specs.declared.statement.Statement.{Statement as DeclaredStatement}
-use Rattle.script_parse.specs.declared.statement.Statement.TheVariants.{Show as DeclaredShow}
+use Rattle.script_parse.specs.Answers.{OfStatement, IsStatementCause, AreRefused, place_at}
 use Rattle.script_parse.specs.declared.errors.ScriptError.{ScriptError}
 use Rattle.script_parse.specs.declared.errors.ScriptError.TheVariants.{Read, Limit, Unbuilt, Syntax, Name, Memory}
 
@@ -23,43 +22,48 @@ use Rattle.script_parse.specs.declared.errors.ScriptError.TheVariants.{Read, Lim
 abbrev pub AreOne : ScriptError → ScriptError → Type 0
 AreOne e f = (e ≡ f) ⊎ (e ≡ Memory) ⊎ (f ≡ Memory)
 
--- why a set is refused
-abbrev SetCause : ℕ → ComprehensionShape → ScriptError → Type 0
-SetCause base set e = (e ≡ Memory) ⊎ ((f : FaultAt) × (shown_fault set.vars set.formula ≡ Some f) × (e ≡ Name f.fault f.place)) ⊎ ((which : Which) × IsLimited base set which × (e ≡ Limit which))
+-- the refusal of a statement, as the reader tells it
+abbrev as_error : Refusal → ScriptError
+as_error (Fault f) = Name f.fault f.place
+as_error (Passed which) = Limit which
+as_error Wanting = Memory
 
-set_cause : (base : ℕ) (set : ComprehensionShape) (e : ScriptError) → IsSetRefused base set e → SetCause base set e
-set_cause base set Read h = absurd h
-set_cause base set (Limit which) h = inr (inr (which, h, refl))
-set_cause base set Unbuilt h = absurd h
-set_cause base set (Syntax place) h = absurd h
-set_cause base set (Name fault place) h = inr (inl (record { fault = fault; place = place }, h, refl))
-set_cause base set Memory h = inl refl
+abbrev StatementCause : ℕ → List KeptSet → StatementShape → ScriptError → Type 0
+StatementCause base kept shape e = (r : Refusal) × IsStatementRefused base kept shape r × (e ≡ as_error r)
 
-set_one : (base : ℕ) (set : ComprehensionShape) (e f : ScriptError) → SetCause base set e → SetCause base set f → AreOne e f
-set_one base set e f (inl p) h = inr (inl p)
-set_one base set e f (inr g) (inl q) = inr (inr q)
-set_one base set e f (inr (inl (x, m, p))) (inr (inl (y, n, q))) = inl (p ∙ ap (λ (z : FaultAt). Name z.fault z.place) (same_some x y (sym m ∙ n)) ∙ sym q)
-set_one base set e f (inr (inl (x, m, p))) (inr (inr (w, l, q))) = absurd (not_none x (sym l.names ∙ m))
-set_one base set e f (inr (inr (w, l, p))) (inr (inl (x, m, q))) = absurd (not_none x (sym l.names ∙ m))
-set_one base set e f (inr (inr (v, k, p))) (inr (inr (w, l, q))) = inl (p ∙ ap Limit (one_passed base (length set.vars) set.formula (core_of set) v w k.first l.first) ∙ sym q)
+statement_cause : (base : ℕ) (kept : List KeptSet) (shape : StatementShape) (e : ScriptError) → IsStatementCause base kept shape e → StatementCause base kept shape e
+statement_cause base kept shape Read h = absurd h
+statement_cause base kept shape (Limit which) h = (Passed which, h, refl)
+statement_cause base kept shape Unbuilt h = absurd h
+statement_cause base kept shape (Syntax place) h = absurd h
+statement_cause base kept shape (Name fault place) h = (Fault (record { fault = fault; place = place }), h, refl)
+statement_cause base kept shape Memory h = (Wanting, tt, refl)
+
+statement_one : (base : ℕ) (kept : List KeptSet) (shape : StatementShape) (e f : ScriptError) → StatementCause base kept shape e → StatementCause base kept shape f → AreOne e f
+statement_one base kept shape e f (r, h, p) (q, i, s) = by (one_refusal base kept shape r q h i)
+  where
+    by : (r ≡ q) ⊎ (r ≡ Wanting) ⊎ (q ≡ Wanting) → AreOne e f
+    by (inl same) = inl (p ∙ ap as_error same ∙ sym s)
+    by (inr (inl wants)) = inr (inl (p ∙ ap as_error wants))
+    by (inr (inr wants)) = inr (inr (s ∙ ap as_error wants))
 
 -- what is said of a refusal by what the tokens are
-abbrev Claims : ℕ → ℕ → List PlacedToken → Outcome → ScriptError → Type 0
-Claims base end ts (Whole a) e = (set : ComprehensionShape) × (statement_shape a ≡ Show set) × IsSetRefused base set e
-Claims base end ts (Wrong k) e = e ≡ Syntax (place_at end ts k)
-Claims base end ts (Deep k) e = e ≡ Limit Nesting
+abbrev Claims : ℕ → List KeptSet → ℕ → List PlacedToken → Outcome → ScriptError → Type 0
+Claims base kept end ts (Whole a) e = IsStatementCause base kept (statement_shape a) e
+Claims base kept end ts (Wrong k) e = e ≡ Syntax (place_at end ts k)
+Claims base kept end ts (Deep k) e = e ≡ Limit Nesting
 
-abbrev Cause : ℕ → ℕ → List PlacedToken → ScriptError → Type 0
-Cause base end ts e = (e ≡ Memory) ⊎ ((has_unbuilt ts ≡ true) × (e ≡ Unbuilt)) ⊎ ((has_unbuilt ts ≡ false) × (x : Outcome) × IsOutcome ts x × Claims base end ts x e)
+abbrev Cause : ℕ → List KeptSet → ℕ → List PlacedToken → ScriptError → Type 0
+Cause base kept end ts e = (e ≡ Memory) ⊎ ((has_unbuilt ts ≡ true) × (e ≡ Unbuilt)) ⊎ ((has_unbuilt ts ≡ false) × (x : Outcome) × IsOutcome ts x × Claims base kept end ts x e)
 
-cause : (base end : ℕ) (ts : List PlacedToken) (e : ScriptError) → AreRefused base end ts e → Cause base end ts e
-cause base end ts Read h = absurd h
-cause base end ts (Limit which) (inl (p, d)) = inr (inr (d.built, Deep d.at, d.deep, ap Limit p))
-cause base end ts (Limit which) (inr o) = inr (inr (o.spells.built, Whole o.spells.tree, o.spells.read, (o.set, o.spells.shows, o.is)))
-cause base end ts Unbuilt h = inr (inl (h, refl))
-cause base end ts (Syntax place) h = inr (inr (h.built, Wrong h.at, h.wrong, ap Syntax h.is))
-cause base end ts (Name fault place) o = inr (inr (o.spells.built, Whole o.spells.tree, o.spells.read, (o.set, o.spells.shows, o.is)))
-cause base end ts Memory h = inl refl
+cause : (base : ℕ) (kept : List KeptSet) (end : ℕ) (ts : List PlacedToken) (e : ScriptError) → AreRefused base kept end ts e → Cause base kept end ts e
+cause base kept end ts Read h = absurd h
+cause base kept end ts (Limit which) (inl (p, d)) = inr (inr (d.built, Deep d.at, d.deep, ap Limit p))
+cause base kept end ts (Limit which) (inr o) = inr (inr (o.spells.built, Whole o.spells.tree, o.spells.read, subst (λ u. IsLimited base kept u which) (sym o.spells.is) o.is))
+cause base kept end ts Unbuilt h = inr (inl (h, refl))
+cause base kept end ts (Syntax place) h = inr (inr (h.built, Wrong h.at, h.wrong, ap Syntax h.is))
+cause base kept end ts (Name fault place) o = inr (inr (o.spells.built, Whole o.spells.tree, o.spells.read, ap (statement_fault kept) o.spells.is ∙ o.is))
+cause base kept end ts Memory h = inl refl
 
 -- tokens are one thing
 same : (ts : List PlacedToken) (x y : Outcome) → IsOutcome ts x → IsOutcome ts y → x ≡ y
@@ -68,38 +72,33 @@ same ts x y h i = by (one ts)
     by : ((z : Outcome) × IsOutcome ts z × ((w : Outcome) → IsOutcome ts w → w ≡ z)) → x ≡ y
     by (z, k, only) = only x h ∙ sym (only y i)
 
-same_set : (s t : ComprehensionShape) → Show s ≡ Show t → s ≡ t
-same_set s t e = same_some s t (ap set_of e)
+claims_one : (base : ℕ) (kept : List KeptSet) (end : ℕ) (ts : List PlacedToken) (x : Outcome) (e f : ScriptError) → Claims base kept end ts x e → Claims base kept end ts x f → AreOne e f
+claims_one base kept end ts (Whole a) e f h i = statement_one base kept (statement_shape a) e f (statement_cause base kept (statement_shape a) e h) (statement_cause base kept (statement_shape a) f i)
+claims_one base kept end ts (Wrong k) e f p q = inl (p ∙ sym q)
+claims_one base kept end ts (Deep k) e f p q = inl (p ∙ sym q)
 
-claims_one : (base end : ℕ) (ts : List PlacedToken) (x : Outcome) (e f : ScriptError) → Claims base end ts x e → Claims base end ts x f → AreOne e f
-claims_one base end ts (Whole a) e f (s, p, h) (t, q, i) = set_one base s e f (set_cause base s e h) (set_cause base s f (subst (λ u. IsSetRefused base u f) (same_set t s (sym q ∙ p)) i))
-claims_one base end ts (Wrong k) e f p q = inl (p ∙ sym q)
-claims_one base end ts (Deep k) e f p q = inl (p ∙ sym q)
-
-pub refusals_are_one : (base end : ℕ) (ts : List PlacedToken) (e f : ScriptError) → AreRefused base end ts e → AreRefused base end ts f → AreOne e f
-refusals_are_one base end ts e f h i = by (cause base end ts e h) (cause base end ts f i)
+pub refusals_are_one : (base : ℕ) (kept : List KeptSet) (end : ℕ) (ts : List PlacedToken) (e f : ScriptError) → AreRefused base kept end ts e → AreRefused base kept end ts f → AreOne e f
+refusals_are_one base kept end ts e f h i = by (cause base kept end ts e h) (cause base kept end ts f i)
   where
-    by : Cause base end ts e → Cause base end ts f → AreOne e f
+    by : Cause base kept end ts e → Cause base kept end ts f → AreOne e f
     by (inl p) j = inr (inl p)
     by (inr g) (inl q) = inr (inr q)
     by (inr (inl (b, p))) (inr (inl (c, q))) = inl (p ∙ sym q)
     by (inr (inl (b, p))) (inr (inr (c, y, k, q))) = absurd (true≢false (sym b ∙ c))
     by (inr (inr (b, x, k, p))) (inr (inl (c, q))) = absurd (true≢false (sym c ∙ b))
-    by (inr (inr (b, x, k, p))) (inr (inr (c, y, l, q))) = claims_one base end ts x e f p (subst (λ z. Claims base end ts z f) (same ts y x l k) q)
+    by (inr (inr (b, x, k, p))) (inr (inr (c, y, l, q))) = claims_one base kept end ts x e f p (subst (λ z. Claims base kept end ts z f) (same ts y x l k) q)
 
--- a set that is shown is refused for want of memory alone
-shown_set : (base : ℕ) (set : ComprehensionShape) (s : DeclaredStatement) (e : ScriptError) → Shows base set s → SetCause base set e → e ≡ Memory
-shown_set base set s e h (inl p) = p
-shown_set base set (DeclaredShow vars f) e h (inr (inl (x, m, p))) = absurd (not_none x (sym h.names ∙ m))
-shown_set base set (DeclaredShow vars f) e h (inr (inr (w, l, p))) = absurd (within_or_passed base (length set.vars) set.formula (core_of set) w h.within l.first)
+-- a statement that is judged is refused for want of memory alone
+judged_is_not_refused : (base : ℕ) (kept : List KeptSet) (shape : StatementShape) (s : DeclaredStatement) (e : ScriptError) → IsJudged base kept shape s → StatementCause base kept shape e → e ≡ Memory
+judged_is_not_refused base kept shape s e h (r, i, p) = p ∙ ap as_error (judged_or_refused base kept shape s r h i)
 
-pub shown_or_refused : (base end : ℕ) (ts : List PlacedToken) (s : DeclaredStatement) (e : ScriptError) → OfSet ts (λ set. Shows base set s) → AreRefused base end ts e → e ≡ Memory
-shown_or_refused base end ts s e o h = by (cause base end ts e h)
+pub asked_or_refused : (base : ℕ) (kept : List KeptSet) (end : ℕ) (ts : List PlacedToken) (s : DeclaredStatement) (e : ScriptError) → OfStatement ts (λ shape. IsJudged base kept shape s) → AreRefused base kept end ts e → e ≡ Memory
+asked_or_refused base kept end ts s e o h = by (cause base kept end ts e h)
   where
-    of_whole : Claims base end ts (Whole o.spells.tree) e → e ≡ Memory
-    of_whole (t, q, i) = shown_set base o.set s e o.is (set_cause base o.set e (subst (λ u. IsSetRefused base u e) (same_set t o.set (sym q ∙ o.spells.shows)) i))
+    of_whole : Claims base kept end ts (Whole o.spells.tree) e → e ≡ Memory
+    of_whole i = judged_is_not_refused base kept o.shape s e o.is (statement_cause base kept o.shape e (subst (λ u. IsStatementCause base kept u e) o.spells.is i))
 
-    by : Cause base end ts e → e ≡ Memory
+    by : Cause base kept end ts e → e ≡ Memory
     by (inl p) = p
     by (inr (inl (b, p))) = absurd (true≢false (sym b ∙ o.spells.built))
-    by (inr (inr (b, x, k, p))) = of_whole (subst (λ z. Claims base end ts z e) (same ts x (Whole o.spells.tree) k o.spells.read) p)
+    by (inr (inr (b, x, k, p))) = of_whole (subst (λ z. Claims base kept end ts z e) (same ts x (Whole o.spells.tree) k o.spells.read) p)

@@ -1,10 +1,12 @@
 pub mod Placing
+pub mod Sizes
 pub mod Ending
 pub mod Built
-pub mod Sizes
 pub mod DeclaredNames
+pub mod Quotients
+pub mod Readable
 pub mod Answering
 pub mod Stepping
 pub mod Excluding
 pub mod InOrder
-pub mod PlainSets
+pub mod PlainStatements

@@ -1,17 +1,18 @@
 -- A shape has no more declarations and parts of terms than what it was read from has tokens.
-use Rattle.std.proofs.Common.{◌≡◌, ◌+◌, ◌≤◌, List, [], ◌∷◌, ◌++◌, length, false, arith, subst}
+use Rattle.std.proofs.Common.{◌+◌, ◌≤◌, List, [], ◌∷◌, ◌++◌, length, false, arith}
 use Rattle.std.proofs.lemmas.List.{length-append, length_push}
 use Rattle.parser_laws.specs.Parsing.{Either, first, other, Lang, both, either, perhaps, items}
+use Rattle.script_tokens.specs.declared.kind.Kind.{Kind}
 use Rattle.script_tokens.specs.declared.kind.Kind.TheVariants as kind
 use Rattle.script_tokens.specs.Tokens.{PlacedToken}
 use Rattle.script_grammar.specs.Views.{is, is_name, sign, relation, at}
-use Rattle.script_grammar.specs.Terms.{scaled, part, tail, term, called, compared, atom, declaration, declarations}
+use Rattle.script_grammar.specs.Terms.{scaled, part, tail, term, arguments, called, compared, atom, declaration, declarations}
 use Rattle.script_grammar.specs.Formulas.{Form, Quant, Plain, Iff, OneImp, TwoImps, Imp, OneOr, TwoOrs, Or, Ands, MoreAnds, NoAnd, OrAnd, And, Units, MoreUnits, NoUnit, AndUnit, Unary, Not, Paren, Simple, form_toks, iff_toks, imp_toks, or_toks, more_ands_toks, and_toks, more_units_toks, unary_toks}
-use Rattle.script_grammar.specs.Statements.{header, whole_statement, Statement}
+use Rattle.script_grammar.specs.Statements.{header}
 use Rattle.script_syntax.specs.Reading.{folded}
-use Rattle.script_syntax.specs.Trees.{SignedShape, Variable, negated, named_shape, lead_shape, DeclarationShape, TreeShape, And as AndShape, Or as OrShape, add_part, part_shape, is_minus, term_shape, add_declaration, declaration_shape, declarations_shape, perhaps_declared, header_shape, compared_shape, atom_shape, form_shape, iff_shape, imp_shape, or_shape, more_ands_shape, and_shape, more_units_shape, unary_shape}
-use Rattle.script_statements.specs.Statements.{ComprehensionShape, Described, Show, statement_shape, described_shape}
-use Rattle.script_meaning.specs.Limits.{size_of}
+use Rattle.script_syntax.specs.Trees.{SignedShape, Variable, negated, named_shape, lead_shape, DeclarationShape, TreeShape, And as AndShape, Or as OrShape, add_part, part_shape, is_minus, term_shape, add_term, arguments_shape, add_declaration, declaration_shape, declarations_shape, perhaps_declared, header_shape, compared_shape, atom_shape, form_shape, iff_shape, imp_shape, or_shape, more_ands_shape, and_shape, more_units_shape, unary_shape}
+use Rattle.script_statements.specs.Statements.{Described, described_shape}
+use Rattle.script_meaning.specs.Limits.{parts_of, size_of}
 
 -- the grammar's parts that have no name there
 abbrev minus : Lang PlacedToken
@@ -23,11 +24,15 @@ more_declarations = items (is kind.Comma) (both (sign kind.Comma) declaration)
 abbrev perhaps_declarations : Lang PlacedToken
 perhaps_declarations = perhaps is_name declarations
 
+abbrev more_terms : Lang PlacedToken
+more_terms = items (is kind.Comma) (both (sign kind.Comma) term)
+
 abbrev lead : Lang PlacedToken
 lead = either (is kind.Minus) (both (sign kind.Minus) part) scaled
 
-abbrev described_toks : Described → List PlacedToken
-described_toks x = header.toks x.left ++ (at kind.Colon x.right.left ∷ (form_toks x.right.right.left ++ at kind.Semicolon x.right.right.right ∷ []))
+-- the tokens of a header, a sign, a formula and a semicolon
+abbrev pub described_toks : Kind → Described → List PlacedToken
+described_toks k x = header.toks x.left ++ (at k x.right.left ∷ (form_toks x.right.right.left ++ at kind.Semicolon x.right.right.right ∷ []))
 
 some_part : (p : part.Tree) → 1 ≤ length (part.toks p)
 some_part (first x) = omega arith
@@ -40,6 +45,19 @@ parts_more s (x ∷ l) = omega (arith, parts_more (add_part s x) l, length_push 
 -- a term has no more parts than tokens
 pub term_small : (t : term.Tree) → length (term_shape t) ≤ length (term.toks t)
 term_small t = omega (arith, parts_more (record { minus = negated t.left; part = part_shape t.right.left } ∷ []) t.right.right, some_part t.right.left, length-append (part.toks t.right.left) (tail.toks t.right.right), length-append (minus.toks t.left) (part.toks t.right.left ++ tail.toks t.right.right))
+
+parts_push : (s : List (List SignedShape)) (t : List SignedShape) → parts_of (s ++ t ∷ []) ≤ parts_of s + length t
+parts_push [] t = omega arith
+parts_push (x ∷ s) t = omega (arith, parts_push s t)
+
+terms_more : (s : List (List SignedShape)) (l : more_terms.Tree) → parts_of (folded add_term s l) ≤ parts_of s + length (more_terms.toks l)
+terms_more s [] = omega arith
+terms_more s (x ∷ l) = omega (arith, terms_more (add_term s x) l, parts_push s (term_shape x.right), term_small x.right, length-append (term.toks x.right) (more_terms.toks l))
+
+-- arguments have no more parts than tokens
+arguments_small : (x : arguments.Tree) → parts_of (arguments_shape x) ≤ length (arguments.toks x)
+arguments_small (first x) = omega (arith, terms_more (term_shape x.left ∷ []) x.right, term_small x.left, length-append (term.toks x.left) (more_terms.toks x.right))
+arguments_small (other x) = omega arith
 
 declarations_more : (s : List DeclarationShape) (l : more_declarations.Tree) → length (folded add_declaration s l) ≤ length s + length (more_declarations.toks l)
 declarations_more s [] = omega arith
@@ -65,7 +83,7 @@ atom_small (first x) = omega arith
 atom_small (other (first x)) = omega (arith, by x.right)
   where
     by : (y : Either called.Tree compared.Tree) → size_of (named_shape x.left y) ≤ 1 + length ((either (is kind.Open) called compared).toks y)
-    by (first y) = omega arith
+    by (first y) = omega (arith, arguments_small y.right.left, length-append (arguments.toks y.right.left) (at kind.Close y.right.right ∷ []))
     by (other y) = compared_small (record { minus = false; part = Variable x.left }) y
 atom_small (other (other x)) = by x.left
   where
@@ -106,17 +124,6 @@ mutual
   unary_small (Paren p f q) = omega (arith, form_small f, length-append (form_toks f) (at kind.Close q ∷ []))
   unary_small (Simple a) = atom_small a
 
-described_small : (x : Described) → length (described_shape x).vars + size_of (described_shape x).formula ≤ length (described_toks x)
-described_small x = omega (arith, header_small x.left, form_small x.right.right.left, length-append (form_toks x.right.right.left) (at kind.Semicolon x.right.right.right ∷ []), length-append (header.toks x.left) (at kind.Colon x.right.left ∷ (form_toks x.right.right.left ++ at kind.Semicolon x.right.right.right ∷ [])))
-
--- a `show` has no more declared variables and parts of terms than tokens
-pub statement_small : (a : Statement) (c : ComprehensionShape) → statement_shape a ≡ Show c → length c.vars + size_of c.formula ≤ length (whole_statement.toks a)
-statement_small (first x) c e = let f : described_shape x.right ≡ c = cc in subst (λ (c : ComprehensionShape). length c.vars + size_of c.formula ≤ length (whole_statement.toks (first x))) f (omega (arith, described_small x.right))
-statement_small (other (first x)) c e = absurd (cc)
-statement_small (other (other (first x))) c e = absurd (cc)
-statement_small (other (other (other (first x)))) c e = absurd (cc)
-statement_small (other (other (other (other (first x))))) c e = absurd (cc)
-statement_small (other (other (other (other (other (first x)))))) c e = absurd (cc)
-statement_small (other (other (other (other (other (other (first x))))))) c e = absurd (cc)
-statement_small (other (other (other (other (other (other (other (first x)))))))) c e = absurd (cc)
-statement_small (other (other (other (other (other (other (other (other x)))))))) c e = absurd (cc)
+-- declared variables with a formula have no more of both than tokens
+pub described_small : (k : Kind) (x : Described) → length (described_shape x).vars + size_of (described_shape x).formula ≤ length (described_toks k x)
+described_small k x = omega (arith, header_small x.left, form_small x.right.right.left, length-append (form_toks x.right.right.left) (at kind.Semicolon x.right.right.right ∷ []), length-append (header.toks x.left) (at k x.right.left ∷ (form_toks x.right.right.left ++ at kind.Semicolon x.right.right.right ∷ [])))

@@ -1,5 +1,5 @@
 -- From what was fetched, and what a piece answers, to what the reader says.
-use Rattle.std.proofs.Common.{◌≡◌, ℕ, ◌+◌, List, ◌++◌, length, take, drop, false, refl, sym, ap, ap₂, ◌∙◌, subst, inl, inr, append-nil, Option, None, Some}
+use Rattle.std.proofs.Common.{◌≡◌, ℕ, ◌+◌, List, ◌++◌, length, take, drop, true, false, refl, sym, ap, ap₂, ◌∙◌, subst, inl, inr, append-nil, Option, None, Some}
 use Rattle.std.specs.Prelude.{Result, Ok, Err, IfSome, unwrap_or}
 use Rattle.std.specs.Io.KnownBytes.{prepend_known, IsAtEnd}
 use Rattle.std.proofs.lemmas.List.{take-append-drop, take-append-le, length-take-le}
@@ -15,16 +15,18 @@ use Rattle.script_pieces.specs.declared.errors.PieceError.{PieceError}
 use Rattle.script_pieces.specs.declared.errors.PieceError.TheVariants.{Read as FaultyRead, StatementBytes as LongStatement, ScriptBytes as LongScript}
 use Rattle.script_pieces.proofs.Cutting.{stable}
 use Rattle.script_pieces.proofs.OneCut.{alone}
-use Rattle.script_statements.specs.Statements.{ComprehensionShape}
-use Rattle.script_parse.specs.Answers.{Spells, OfSet, Shows, AreRefused, State, IsNext, IsPiece, IsCause, IsStopped, Says, GivesStatement, EndsRest, error_of}
-use Rattle.script_parse.specs.declared.statement.Statement.{Statement as DeclaredStatement}
+use Rattle.script_statements.specs.Statements.{StatementShape}
+use Rattle.script_names.specs.Kept.{KeptSet}
+use Rattle.statement_meaning.specs.Judging.{IsJudged}
+use Rattle.statement_meaning.specs.declared.statement.Statement.{Statement as DeclaredStatement}
+use Rattle.script_parse.specs.Answers.{Spells, OfStatement, AreRefused, State, IsNext, IsPiece, IsCause, IsStopped, Says, GivesStatement, EndsRest, error_of}
 use Rattle.script_parse.specs.declared.errors.ScriptError.{ScriptError}
 use Rattle.script_parse.specs.declared.errors.ScriptError.TheVariants.{Read, Limit, Unbuilt, Syntax, Name, Memory}
-use Rattle.script_parse.proofs.Ending.{ends, rest_has_none, show_has_one}
+use Rattle.script_parse.proofs.Ending.{ends, rest_has_none, statement_has_one}
 
 -- a rest spells no statement
-pub rest_spells_none : (place : ℕ) (bs : List ℕ) (ts : List PlacedToken) (set : ComprehensionShape) → statement_length false bs ≡ None → ts ≡ tokens_of place bs → Spells ts set → ⊥
-rest_spells_none place bs ts set unended is h = true≢false (sym (show_has_one h.tree set h.shows) ∙ ap ends (sym h.read.spelled) ∙ ap ends is ∙ rest_has_none place bs unended)
+pub rest_spells_none : (place : ℕ) (bs : List ℕ) (ts : List PlacedToken) (shape : StatementShape) → statement_length false bs ≡ None → ts ≡ tokens_of place bs → Spells ts shape → ⊥
+rest_spells_none place bs ts shape unended is h = true≢false (sym (statement_has_one h.tree) ∙ ap ends (sym h.read.spelled) ∙ ap ends is ∙ rest_has_none place bs unended)
 
 -- the first statement of the bytes held is their first piece
 statement_piece : (p : Progress) (left : Option (List ℕ)) (size : ℕ) → IsStatement p size → IsPiece p left (take size p.held)
@@ -49,13 +51,13 @@ rest_piece p left h = record { held = all p.held h.unended.unended; ahead = by l
     by (Some more) e = subst (λ bytes. p.held ≡ take (piece_length bytes) bytes) (sym (append-nil p.held) ∙ ap (λ xs. p.held ++ xs) (sym e)) (all p.held h.unended.unended)
 
 -- the refusal of the first piece is the cause
-refused_first : (base : ℕ) (p : Progress) (left : Option (List ℕ)) (before after : ℕ) (piece : List ℕ) (e : ScriptError) → IsPiece p left piece → AreRefused base (p.given + length piece) (tokens_of p.given piece) e → IsCause base p left before after e
-refused_first base p left before after piece Read f r = absurd r
-refused_first base p left before after piece (Limit which) f r = inr (inr (record { piece = piece; first = f; refused = r }))
-refused_first base p left before after piece Unbuilt f r = record { piece = piece; first = f; refused = r }
-refused_first base p left before after piece (Syntax place) f r = record { piece = piece; first = f; refused = r }
-refused_first base p left before after piece (Name fault place) f r = record { piece = piece; first = f; refused = r }
-refused_first base p left before after piece Memory f r = tt
+refused_first : (base : ℕ) (kept : List KeptSet) (p : Progress) (left : Option (List ℕ)) (before after : ℕ) (piece : List ℕ) (e : ScriptError) → IsPiece p left piece → AreRefused base kept (p.given + length piece) (tokens_of p.given piece) e → IsCause base kept p left before after e
+refused_first base kept p left before after piece Read f r = absurd r
+refused_first base kept p left before after piece (Limit which) f r = inr (inr (record { piece = piece; first = f; refused = r }))
+refused_first base kept p left before after piece Unbuilt f r = record { piece = piece; first = f; refused = r }
+refused_first base kept p left before after piece (Syntax place) f r = record { piece = piece; first = f; refused = r }
+refused_first base kept p left before after piece (Name fault place) f r = record { piece = piece; first = f; refused = r }
+refused_first base kept p left before after piece Memory f r = tt
 
 -- what was fetched
 pub record IsFetched (before fetched : Progress) (left_before left_after : Option (List ℕ)) : Type 0 where
@@ -63,16 +65,16 @@ pub record IsFetched (before fetched : Progress) (left_before left_after : Optio
   pub needed : IsNeeded before fetched
 
 -- a piece that was not fetched
-pub says_failure : (base : ℕ) (before fetched : Progress) (left_before left_after : Option (List ℕ)) (fb fa : ℕ) (e : PieceError) → IsFetched before fetched left_before left_after → IsFailure e fetched left_after fb fa → IsStopped base before fetched left_before left_after fb fa (error_of e)
-says_failure base before fetched lb la fb fa FaultyRead h f = record { taken = h.taken; needed = h.needed; cause = f }
-says_failure base before fetched lb la fb fa LongStatement h f = record { taken = h.taken; needed = h.needed; cause = inl (refl, f) }
-says_failure base before fetched lb la fb fa LongScript h f = record { taken = h.taken; needed = h.needed; cause = inr (inl (refl, f)) }
+pub says_failure : (base : ℕ) (kept : List KeptSet) (before fetched : Progress) (left_before left_after : Option (List ℕ)) (fb fa : ℕ) (e : PieceError) → IsFetched before fetched left_before left_after → IsFailure e fetched left_after fb fa → IsStopped base kept before fetched left_before left_after fb fa (error_of e)
+says_failure base kept before fetched lb la fb fa FaultyRead h f = record { taken = h.taken; needed = h.needed; cause = f }
+says_failure base kept before fetched lb la fb fa LongStatement h f = record { taken = h.taken; needed = h.needed; cause = inl (refl, f) }
+says_failure base kept before fetched lb la fb fa LongScript h f = record { taken = h.taken; needed = h.needed; cause = inr (inl (refl, f)) }
 
 -- a rest
-pub says_rest : (base : ℕ) (before fetched : Progress) (left_before left_after : Option (List ℕ)) (fb fa : ℕ) (r : Result (Option DeclaredStatement) ScriptError) → IsFetched before fetched left_before left_after → IsRest fetched left_after → EndsRest (record { base = base; progress = fetched; live = false }) r → Says base before fetched left_before left_after fb fa r
-says_rest base before fetched lb la fb fa (Ok None) h rest is = record { taken = h.taken; needed = h.needed; rest = rest; blank = is }
-says_rest base before fetched lb la fb fa (Ok (Some s)) h rest is = absurd is
-says_rest base before fetched lb la fb fa (Err e) h rest is = record { taken = h.taken; needed = h.needed; cause = refused_first base fetched la fb fa fetched.held e (rest_piece fetched la rest) is }
+pub says_rest : (base : ℕ) (kept : List KeptSet) (before fetched : Progress) (left_before left_after : Option (List ℕ)) (fb fa : ℕ) (r : Result (Option DeclaredStatement) ScriptError) → IsFetched before fetched left_before left_after → IsRest fetched left_after → EndsRest kept (record { base = base; progress = fetched; live = false }) r → Says base kept before fetched left_before left_after fb fa r
+says_rest base kept before fetched lb la fb fa (Ok None) h rest is = record { taken = h.taken; needed = h.needed; rest = rest; blank = is }
+says_rest base kept before fetched lb la fb fa (Ok (Some s)) h rest is = absurd is
+says_rest base kept before fetched lb la fb fa (Err e) h rest is = record { taken = h.taken; needed = h.needed; cause = refused_first base kept fetched la fb fa fetched.held e (rest_piece fetched la rest) is }
 
 -- what was needed is told by the bytes held
 needed_bytes : (before fetched : Progress) (given : ℕ) (held : List ℕ) → fetched.held ≡ held → IsNeeded before fetched → IsNeeded before (record { given = given; held = held })
@@ -80,19 +82,23 @@ needed_bytes before fetched given held e (inl same) = inl (sym e ∙ same)
 needed_bytes before fetched given held e (inr grew) = inr (record { earlier = grew.earlier; last = grew.last; grew = sym e ∙ grew.grew; was_open = grew.was_open })
 
 -- a statement
-pub says_statement : (base : ℕ) (before fetched : Progress) (after : State) (left_before left_after : Option (List ℕ)) (fb fa size : ℕ) (r : Result (Option DeclaredStatement) ScriptError) → IsFetched before fetched left_before left_after → IsStatement fetched size → GivesStatement (record { base = base; progress = fetched; live = false }) size after r → Says base before after.progress left_before left_after fb fa r
-says_statement base before fetched after lb la fb fa size (Ok None) h s is = absurd is
-says_statement base before fetched after lb la fb fa size (Ok (Some t)) h s (gives, shown) =
+pub says_statement : (base : ℕ) (kept : List KeptSet) (before fetched : Progress) (after : State) (left_before left_after : Option (List ℕ)) (fb fa size : ℕ) (r : Result (Option DeclaredStatement) ScriptError) → IsFetched before fetched left_before left_after → IsStatement fetched size → GivesStatement kept (record { base = base; progress = fetched; live = false }) size after r → Says base kept before after.progress left_before left_after fb fa r
+says_statement base kept before fetched after lb la fb fa size (Ok None) h s is = absurd is
+says_statement base kept before fetched after lb la fb fa size (Ok (Some t)) h s (gives, asks) =
     let text = take size fetched.held in
     let long : length text ≡ size = length-take-le size fetched.held s.inside in
     let joined : text ++ drop size fetched.held ≡ fetched.held = take-append-drop size fetched.held in
-    subst (λ (x : State). IsNext base before x.progress lb la t) (sym gives) (record {
+    subst (λ (x : State). IsNext base kept before x.progress lb la t) (sym gives) (record {
       text = text;
       taken = record { taken = h.taken.taken; given = refl; held = joined ∙ h.taken.held; left = h.taken.left };
       given = ap₂ (λ x y. x + y) h.taken.given (sym long);
       needed = needed_bytes before fetched before.given (text ++ drop size fetched.held) (sym joined) h.needed;
       whole = alone false fetched.held size s.whole ∙ ap Some (sym long);
       within = subst (λ n. IsWithin before.given n) (sym long) (subst (λ g. IsWithin g size) h.taken.given s.within);
-      shows = subst (λ g. OfSet (tokens_of g text) (λ set. Shows base set t)) h.taken.given shown;
+      asks = subst (λ g. OfStatement (tokens_of g text) (λ shape. IsJudged base kept shape t)) h.taken.given asks;
     })
-says_statement base before fetched after lb la fb fa size (Err e) h s (stays, refused) = subst (λ (x : State). IsStopped base before x.progress lb la fb fa e) (sym stays) (record { taken = h.taken; needed = h.needed; cause = refused_first base fetched la fb fa (take size fetched.held) e (statement_piece fetched la size s) refused })
+says_statement base kept before fetched after lb la fb fa size (Err e) h s (stays, refused) = subst (λ (x : State). IsStopped base kept before x.progress lb la fb fa e) (sym stays) (record { taken = h.taken; needed = h.needed; cause = refused_first base kept fetched la fb fa (take size fetched.held) e (statement_piece fetched la size s) refused })
+
+-- a statement that is held is given
+pub gives : (kept : List KeptSet) (before : State) (after : Progress) (size : ℕ) (s : DeclaredStatement) (given : ℕ) (piece : List ℕ) → after.given ≡ before.progress.given + size → after.held ≡ drop size before.progress.held → given ≡ before.progress.given → piece ≡ take size before.progress.held → OfStatement (tokens_of given piece) (λ shape. IsJudged before.base kept shape s) → GivesStatement kept before size (record { base = before.base; progress = after; live = true }) (Ok (Some s))
+gives kept before after size s given piece more left at is asks = (ap₂ (λ g h. record { base = before.base; progress = record { given = g; held = h }; live = true }) more left, subst (λ xs. OfStatement (tokens_of before.progress.given xs) (λ shape. IsJudged before.base kept shape s)) is (subst (λ g. OfStatement (tokens_of g piece) (λ shape. IsJudged before.base kept shape s)) at asks))

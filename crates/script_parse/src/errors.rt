@@ -1,6 +1,7 @@
 //! Why no statement is given.
 
-use script_meaning::{NameFault, Which};
+use script_meaning::Which;
+use script_names::NameFault;
 use thiserror::Error;
 
 /// Why no statement is given. A place is the number of script bytes before the token, or before the end, that is meant.

@@ -5,13 +5,11 @@ mod errors;
 mod laws;
 mod piece;
 mod reader;
-mod statement;
 mod unbuilt;
 
 pub use errors::ScriptError;
-pub use laws::{answers_exclude_each_other, built_sets_are_plain, statements_come_in_order};
+pub use laws::{answers_exclude_each_other, built_statements_are_plain, statements_come_in_order};
 pub use reader::Statements;
-pub use statement::Statement;
 
 #[cfg(test)]
 mod tests;

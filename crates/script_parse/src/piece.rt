@@ -1,49 +1,56 @@
-//! What a piece of a script says.
+//! From the bytes of a piece to its statement: tokens, what is not built, the tree, and what the statement asks.
 
-ghost use Rattle.std.specs.Prelude.{◌≡◌, ◌≤◌, ◌<◌, ◌+◌, ◌^◌, false, All, None, length, map};
-ghost use Rattle.formula_core.specs.Names.{IsVariableName};
-ghost use Rattle.script_tokens.specs.Shape.{placed_of};
-ghost use Rattle.script_meaning.specs.Limits.{size_of, terms_limit};
+ghost use Rattle.std.specs.Prelude.{◌≡◌, ◌≤◌, ◌+◌, ◌^◌, None, false, length, map};
 ghost use Rattle.script_tokens.specs.Lexing.{tokens_of};
-ghost use Rattle.script_pieces.specs.Cuts.{statement_length};
 ghost use Rattle.script_tokens.specs.Naming.{AreNamed};
-ghost use Rattle.script_parse.specs.Answers.{AnswersRest, AnswersTokens, AnswersSet, place_at, set_of};
-ghost use Rattle.std.specs.Option.{option_map};
-ghost use Rattle.script_statements.specs.Statements.{comprehension_of, statement_of};
-ghost use Rattle.script_syntax.specs.Trees.{declaration_of, tree_of};
+ghost use Rattle.script_tokens.specs.Shape.{placed_of};
+ghost use Rattle.script_pieces.specs.Cuts.{statement_length};
+ghost use Rattle.script_names.specs.Kept.{sets_of};
+ghost use Rattle.script_statements.specs.Statements.{statement_of};
+ghost use Rattle.statement_meaning.specs.Judging.{IsStatementReadable};
+ghost use Rattle.script_parse.specs.Answers.{AnswersRest, AnswersTokens, AnswersStatement, place_at};
 
 use crate::errors::ScriptError;
-use crate::statement::Statement;
 use crate::unbuilt::holds_unbuilt;
 use digit_codes::Base;
-use script_meaning::{FaultAt, Refusal as SetRefusal, Which, resolve};
-use script_statements::{Comprehension, Refusal, Statement as Tree, read_statement};
+use script_meaning::{Refusal as StatementRefusal, Which};
+use script_names::{Defs, FaultAt};
+use script_statements::{Refusal, Statement as Tree, read_statement};
 use script_tokens::{Placed, tokens};
+use statement_meaning::{Statement, judge};
 use std::alloc::Global;
 
-/// The statement that the bytes of a piece spell. The piece stands behind `given` script bytes, and has at most 65,536 bytes.
+/// The statement that the bytes of a piece spell, where these sets are kept. The piece stands behind `given` script bytes, and has at most
+/// 65,536 bytes.
 pub fn read_piece(
     alloc: Global,
     base: Base,
+    defs: &Defs,
     piece: &[u8],
     given: u64,
 ) -> Result<Statement, ScriptError>
     requires few { length piece.now ≤ 65536 }
     requires place { given ≤ 2 ^ 32 }
-    ensures { AnswersTokens base (given + length piece.now) (tokens_of given piece.now) result }
+    ensures { AnswersTokens base (sets_of defs.now) (given + length piece.now) (tokens_of given piece.now) result }
 {
     match tokens(alloc, piece, given) {
-        Ok(tokens) => read_tokens(alloc, base, &tokens, given + piece.len() as u64),
+        Ok(tokens) => read_tokens(alloc, base, defs, &tokens, given + piece.len() as u64),
         Err(_) => Err(ScriptError::Memory),
     }
 }
 
 /// The same of bytes that hold no whole statement. They are well where they hold no token.
-pub fn read_rest(alloc: Global, base: Base, piece: &[u8], given: u64) -> Result<(), ScriptError>
+pub fn read_rest(
+    alloc: Global,
+    base: Base,
+    defs: &Defs,
+    piece: &[u8],
+    given: u64,
+) -> Result<(), ScriptError>
     requires few { length piece.now ≤ 65536 }
     requires place { given ≤ 2 ^ 32 }
     requires unended { statement_length false piece.now ≡ None }
-    ensures { AnswersRest base given piece.now result }
+    ensures { AnswersRest base (sets_of defs.now) given piece.now result }
 {
     let tokens = match tokens(alloc, piece, given) {
         Ok(tokens) => tokens,
@@ -52,7 +59,7 @@ pub fn read_rest(alloc: Global, base: Base, piece: &[u8], given: u64) -> Result<
     if tokens.is_empty() {
         return Ok(());
     }
-    match read_tokens(alloc, base, &tokens, given + piece.len() as u64) {
+    match read_tokens(alloc, base, defs, &tokens, given + piece.len() as u64) {
         // Each statement ends with a semicolon, and the tokens hold none.
         Ok(_) => Ok(()),
         Err(error) => Err(error),
@@ -63,22 +70,19 @@ pub fn read_rest(alloc: Global, base: Base, piece: &[u8], given: u64) -> Result<
 fn read_tokens(
     alloc: Global,
     base: Base,
+    defs: &Defs,
     tokens: &[Placed<'_>],
     end: u64,
 ) -> Result<Statement, ScriptError>
     requires few { length tokens.now ≤ 65536 }
     requires named { AreNamed (map placed_of tokens.now) }
-    ensures { AnswersTokens base end (map placed_of tokens.now) result }
+    ensures { AnswersTokens base (sets_of defs.now) end (map placed_of tokens.now) result }
 {
     if holds_unbuilt(tokens) {
         return Err(ScriptError::Unbuilt);
     }
     match read_statement(alloc, tokens) {
-        Ok(tree) => match shown_set(tree) {
-            Some(set) => resolved(alloc, base, &set),
-            // Each other statement begins with a keyword that is not built.
-            None => Err(ScriptError::Unbuilt),
-        },
+        Ok(tree) => judged(alloc, base, defs, &tree),
         Err(Refusal::Syntax { at }) => Err(ScriptError::Syntax {
             place: place_of(tokens, at, end),
         }),
@@ -86,16 +90,6 @@ fn read_tokens(
             which: Which::Nesting,
         }),
         Err(Refusal::Memory) => Err(ScriptError::Memory),
-    }
-}
-
-// The set of a statement that shows one.
-fn shown_set<'a>(statement: Tree<'a>) -> Option<Comprehension<'a>>
-    ensures { option_map comprehension_of result ≡ set_of (statement_of statement.entry) }
-{
-    match statement {
-        Tree::Show(set) => Some(set),
-        _ => None,
     }
 }
 
@@ -110,19 +104,18 @@ fn place_of(tokens: &[Placed<'_>], at: usize, end: u64) -> u64
     }
 }
 
-// The statement that shows a set.
-fn resolved(alloc: Global, base: Base, set: &Comprehension<'_>) -> Result<Statement, ScriptError>
-    requires named { All (λ d. IsVariableName (declaration_of d).name.left) set.now.vars.items }
-    requires size { length set.now.vars.items + size_of (tree_of set.now.formula) ≤ terms_limit }
-    ensures { AnswersSet base (comprehension_of set.now) result }
+// What a statement asks.
+fn judged(alloc: Global, base: Base, defs: &Defs, tree: &Tree<'_>) -> Result<Statement, ScriptError>
+    requires readable { IsStatementReadable (statement_of tree.now) }
+    ensures { AnswersStatement base (sets_of defs.now) (statement_of tree.now) result }
 {
-    match resolve(alloc, base, &set.vars, &set.formula) {
-        Ok(resolved) => Ok(Statement::Show {
-            vars: resolved.vars,
-            formula: resolved.formula,
+    match judge(alloc, base, defs, tree) {
+        Ok(statement) => Ok(statement),
+        Err(StatementRefusal::Fault(FaultAt { fault, place })) => Err(ScriptError::Name {
+            fault,
+            place,
         }),
-        Err(SetRefusal::Fault(FaultAt { fault, place })) => Err(ScriptError::Name { fault, place }),
-        Err(SetRefusal::Limit(which)) => Err(ScriptError::Limit { which }),
-        Err(SetRefusal::Memory) => Err(ScriptError::Memory),
+        Err(StatementRefusal::Limit(which)) => Err(ScriptError::Limit { which }),
+        Err(StatementRefusal::Memory) => Err(ScriptError::Memory),
     }
 }

@@ -5,14 +5,16 @@ ghost use Rattle.script_pieces.specs.Limits.{script_bytes_limit};
 ghost use Rattle.script_pieces.specs.Taking.{IsOpen};
 ghost use Rattle.script_parse.specs.Answers.{EndsRest, GivesStatement, Says, error_of, goes_on};
 ghost use Rattle.script_pieces.specs.Answers.{IsStatement};
+ghost use Rattle.script_names.specs.Kept.{sets_of};
 
 use crate::errors::ScriptError;
 use crate::piece::{read_piece, read_rest};
-use crate::statement::Statement;
 use digit_codes::Base;
 use lash_io::{Memory, Source};
 use script_meaning::Which;
+use script_names::Defs;
 use script_pieces::{Ahead, PieceError, Pieces};
+use statement_meaning::Statement;
 use std::alloc::Global;
 use std::marker::Model;
 
@@ -54,43 +56,49 @@ impl Statements {
         self.live
     }
 
-    /// The next statement of the script, or None at its end. The reader is live, as a condition.
+    /// The next statement of the script, where these sets are kept, or None at its end. The reader is live, as a condition.
     ///
     /// # Errors
     /// `Read` where a read met a fault; else, of the first piece of the bytes ahead, `Limit` where it has too many bytes, `Unbuilt` where it
-    /// has a token of what is not built (the keyword of another statement than `show`, `real`, or a name directly before a parenthesis),
-    /// `Syntax` and `Limit` of the nesting at the first wrong token or group too many, `Name` at the first wrong name, and `Limit` for the
-    /// first limit that its formula passes. `Memory` may come besides.
+    /// has a token of what is not built (the keyword `loop` or `real`), `Syntax` and `Limit` of the nesting at the first wrong token or group
+    /// too many, `Name` at the first wrong name, and `Limit` for the first limit that its statement passes. `Memory` may come besides.
     pub fn next<S: Source>(
         &mut self,
         alloc: Global,
+        defs: &Defs,
         source: &mut S,
     ) -> Result<Option<Statement>, ScriptError>
         requires { self.old.live ≡ true }
         ensures base { self.new.base ≡ self.old.base }
         ensures live { self.new.live ≡ goes_on result }
-        ensures says { Says self.old.base self.old.progress self.new.progress (S.left source.old) (S.left source.new) (S.faults source.old) (S.faults source.new) result }
+        ensures says { Says self.old.base (sets_of defs.now) self.old.progress self.new.progress (S.left source.old) (S.left source.new) (S.faults source.old) (S.faults source.new) result }
         ensures count { S.faults source.old ≤ S.faults source.new }
         ensures idle { (IsOpen self.old.progress → ⊥) → source.new ≡ source.old }
         ensures most { self.new.progress.given + length self.new.progress.held ≤ script_bytes_limit + 1 }
     {
         self.live = false;
         match self.pieces.fetch(source) {
-            Ok(Ahead::Statement(size)) => self.statement(alloc, size),
-            Ok(Ahead::Rest) => self.rest(alloc),
+            Ok(Ahead::Statement(size)) => self.statement(alloc, defs, size),
+            Ok(Ahead::Rest) => self.rest(alloc, defs),
             Err(error) => Err(long_piece(error)),
         }
     }
 
     // The statement of so many bytes that is held.
-    fn statement(&mut self, alloc: Global, size: usize) -> Result<Option<Statement>, ScriptError>
+    fn statement(
+        &mut self,
+        alloc: Global,
+        defs: &Defs,
+        size: usize,
+    ) -> Result<Option<Statement>, ScriptError>
         requires ahead { IsStatement self.old.progress size }
         requires dead { self.old.live ≡ false }
-        ensures { GivesStatement self.old size self.new result }
+        ensures { GivesStatement (sets_of defs.now) self.old size self.new result }
     {
         match read_piece(
             alloc,
             self.base,
+            defs,
             &self.pieces.held()[..size],
             self.pieces.given(),
         ) {
@@ -104,11 +112,17 @@ impl Statements {
     }
 
     // The end, where what is held has no token.
-    fn rest(&self, alloc: Global) -> Result<Option<Statement>, ScriptError>
+    fn rest(&self, alloc: Global, defs: &Defs) -> Result<Option<Statement>, ScriptError>
         requires { IsOpen self.now.progress }
-        ensures { EndsRest self.now result }
+        ensures { EndsRest (sets_of defs.now) self.now result }
     {
-        match read_rest(alloc, self.base, self.pieces.held(), self.pieces.given()) {
+        match read_rest(
+            alloc,
+            self.base,
+            defs,
+            self.pieces.held(),
+            self.pieces.given(),
+        ) {
             Ok(()) => Ok(None),
             Err(error) => Err(error),
         }

@@ -6,7 +6,9 @@ use super::*;
 use digit_codes::Base;
 use formula_core::{Formula, Linear, Sort};
 use lash_io::MemSource;
-use script_meaning::{NameFault, Which};
+use script_meaning::Which;
+use script_names::{Defs, NameFault};
+use statement_meaning::Statement;
 use std::alloc::{AllocError, Global};
 use std::test::Fail;
 
@@ -29,7 +31,7 @@ fn reader(alloc: Global) -> Result<Statements, Fail> {
     }
 }
 
-/// The next answer of a reader that is live.
+/// The next answer of a reader that is live, where no sets are kept.
 fn next(
     alloc: Global,
     statements: &mut Statements,
@@ -38,7 +40,7 @@ fn next(
     if !statements.live() {
         return Err(Fail::from("the reader is not live"));
     }
-    Ok(statements.next(alloc, source))
+    Ok(statements.next(alloc, &Defs::new(alloc), source))
 }
 
 /// Whether a term is the variable at place 0 alone, compared to a bound.
@@ -58,6 +60,7 @@ fn shows_at_most(statement: &Statement, name: &[u8], bound: i128) -> bool {
                 _ => false,
             }
         }
+        _ => false,
     }
 }
 
@@ -301,17 +304,67 @@ fn bound_reals_are_not_built(rt: HostRuntime) -> Result<(), Fail> {
 }
 
 #[test]
-fn more_is_not_built(rt: HostRuntime) -> Result<(), Fail> {
+fn loops_and_reals_are_not_built(rt: HostRuntime) -> Result<(), Fail> {
     let unbuilt = Some(ScriptError::Unbuilt);
-    assert_eq!(rt; refusal(rt.alloc(), b"check true;", &[])?, unbuilt);
     assert_eq!(rt;
-        refusal(rt.alloc(), b"show (x real): x <= 1;", &[])?,
+        refusal(
+            rt.alloc(),
+            b"loop L (x int) when x <= 10 do x := x + 1;",
+            &[]
+        )?,
         unbuilt
     );
-    assert_eq!(rt; refusal(rt.alloc(), b"show (x int): A(x);", &[])?, unbuilt);
+    assert_eq!(rt;
+        refusal(rt.alloc(), b"set A (x real) = y <= 1;", &[])?,
+        unbuilt
+    );
     assert_eq!(rt;
         refusal(rt.alloc(), b"; check true", &[])?,
         Some(ScriptError::Syntax { place: 0 })
+    );
+    Ok(())
+}
+
+/// Whether an answer asks whether the formula of `true` holds.
+fn checks_truth(answer: &Answer) -> bool {
+    match answer {
+        Ok(Some(Statement::Check { formula })) => is_atom(formula, &[]),
+        _ => false,
+    }
+}
+
+#[test]
+fn truth_is_checked(rt: HostRuntime) -> Result<(), Fail> {
+    let mut source = source(rt.alloc(), b"check true;", 3, &[])?;
+    let mut statements = reader(rt.alloc())?;
+    let first = next(rt.alloc(), &mut statements, &mut source)?;
+    let last = next(rt.alloc(), &mut statements, &mut source)?;
+    assert!(rt; checks_truth(&first) && ends(&last));
+    Ok(())
+}
+
+#[test]
+fn sets_that_are_not_kept_are_unknown(rt: HostRuntime) -> Result<(), Fail> {
+    assert_eq!(rt;
+        refusal(rt.alloc(), b"show (x int): set1(3);", &[])?,
+        Some(ScriptError::Name {
+            fault: NameFault::Unknown,
+            place: 14
+        })
+    );
+    assert_eq!(rt;
+        refusal(rt.alloc(), b"print B;", &[])?,
+        Some(ScriptError::Name {
+            fault: NameFault::Unknown,
+            place: 6
+        })
+    );
+    assert_eq!(rt;
+        refusal(rt.alloc(), b"test A (18446744073709551617);", &[])?,
+        Some(ScriptError::Name {
+            fault: NameFault::Unknown,
+            place: 5
+        })
     );
     Ok(())
 }

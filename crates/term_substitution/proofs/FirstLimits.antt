@@ -13,7 +13,8 @@ use Rattle.term_substitution.specs.declared.errors.FormError.TheVariants.{Nodes,
 use Rattle.term_substitution.specs.declared.judging.Passed.{Passed}
 use Rattle.term_substitution.proofs.Reaching.{result_over}
 
-same_nodes : (f : Formula) (terms : List Linear) (places : ℕ) → nodes_of (substituted f terms places) ≡ nodes_of f
+-- substitution keeps the nodes and the depth
+pub same_nodes : (f : Formula) (terms : List Linear) (places : ℕ) → nodes_of (substituted f terms places) ≡ nodes_of f
 same_nodes (Le a) terms places = refl
 same_nodes (Eq a) terms places = refl
 same_nodes (Not f) terms places = ap (λ n. n + 1) (same_nodes f terms places)
@@ -21,7 +22,7 @@ same_nodes (And f g) terms places = ap₂ (λ n m. n + m + 1) (same_nodes f term
 same_nodes (Or f g) terms places = ap₂ (λ n m. n + m + 1) (same_nodes f terms places) (same_nodes g terms places)
 same_nodes (Exists s f) terms places = ap (λ n. n + 1) (same_nodes f terms places)
 
-same_depth : (f : Formula) (terms : List Linear) (places : ℕ) → depth_of (substituted f terms places) ≡ depth_of f
+pub same_depth : (f : Formula) (terms : List Linear) (places : ℕ) → depth_of (substituted f terms places) ≡ depth_of f
 same_depth (Le a) terms places = refl
 same_depth (Eq a) terms places = refl
 same_depth (Not f) terms places = ap (λ n. n + 1) (same_depth f terms places)

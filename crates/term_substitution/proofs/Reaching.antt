@@ -34,7 +34,7 @@ pub reached_of : (f : Formula) (n : ℕ) → depth_of f ≤ 256 → IsOver n f �
 reached_of f n h over = reached f n (n + 256) (omega (arith, h)) over
 
 -- each place is below k
-abbrev AreBelow : ℕ → List (ℕ × ℤ) → Type 0
+abbrev pub AreBelow : ℕ → List (ℕ × ℤ) → Type 0
 AreBelow k ts = AllByRecursion (λ t. t.0 < k) ts
 
 wider : (m k : ℕ) (ts : List (ℕ × ℤ)) → m ≤ k → AreBelow m ts → AreBelow k ts
@@ -44,7 +44,7 @@ wider m k (t ∷ ts) le h = (omega (arith, le, h.0), wider m k ts le h.1)
 front_below : (k place : ℕ) (c : ℤ) (ts : List (ℕ × ℤ)) → place < k → AreBelow k ts → AreBelow k (in_front place c ts)
 front_below k place c ts lt h = cond_both (int_eq c (pos 0)) ts ((place, c) ∷ ts) (AreBelow k) (λ _. h) (λ _. (lt, h))
 
-added_below : (k : ℕ) (ts : List (ℕ × ℤ)) (place : ℕ) (c : ℤ) → place < k → AreBelow k ts → AreBelow k (added ts place c)
+pub added_below : (k : ℕ) (ts : List (ℕ × ℤ)) (place : ℕ) (c : ℤ) → place < k → AreBelow k ts → AreBelow k (added ts place c)
 unfolding added
 added_below k [] place c lt h = front_below k place c [] lt tt
 added_below k (t ∷ ts) place c lt h = cond_both (nat_lt t.0 place) (t ∷ added ts place c) (cond (nat_lt place t.0) (in_front place c (t ∷ ts)) (in_front place (t.1 +ℤ c) ts)) (AreBelow k)
@@ -57,7 +57,7 @@ scaled_below k into a (t ∷ ts) h g = scaled_below k (added into t.0 (a *ℤ t.
 
 -- the formula's m variables become k variables: those that are bound move behind the result's
 record IsMoved (terms : List Linear) (places m k : ℕ) : Type 0 where
-  substitutes : All (IsSubstitute places) terms
+  substitutes : All (λ t. All (λ s. s.0 < places) t.terms) terms
   enough : places ≤ k
   shift : m + places ≡ k + length terms
 
@@ -66,7 +66,7 @@ one_more h = record { substitutes = h.substitutes; enough = omega (arith, h.enou
 
 image_below : (terms : List Linear) (places m k place : ℕ) → IsMoved terms places m k → place < m → AreBelow k (image terms places place).terms
 image_below terms places m k place h lt = cond_both (nat_lt place (length terms)) (get_or terms place zero_term) (variable_term (places + (place - length terms))) (λ t. AreBelow k t.terms)
-    (λ e. wider places k (get_or terms place zero_term).terms h.enough (recursion_from_All (λ s. s.0 < places) (get_or terms place zero_term).terms (h.substitutes place zero_term (ltb-true place (length terms) e)).places_below))
+    (λ e. wider places k (get_or terms place zero_term).terms h.enough (recursion_from_All (λ s. s.0 < places) (get_or terms place zero_term).terms (h.substitutes place zero_term (ltb-true place (length terms) e))))
     (λ e. (omega (arith, h.shift, lt, ltb-false place (length terms) e), tt))
 
 images_below : (terms : List Linear) (places m k : ℕ) (into ts : List (ℕ × ℤ)) → IsMoved terms places m k → AreBelow k into → AreBelow m ts → AreBelow k (with_images terms places into ts)
@@ -97,5 +97,9 @@ over (And f g) terms places m k h o few small = (over f terms places m k h o.0 (
 over (Or f g) terms places m k h o few small = (over f terms places m k h o.0 (left_false _ _ few) (left_false _ _ small), over g terms places m k h o.1 (right_false _ _ few) (right_false _ _ small))
 over (Exists s f) terms places m k h o few small = over f terms places (m + 1) (k + 1) (one_more h) o few small
 
+-- the result of terms over so many places is over them, where no limit is passed
+pub result_placed : (f : Formula) (terms : List Linear) (places : ℕ) → All (λ t. All (λ s. s.0 < places) t.terms) terms → IsOver (length terms) f → some_atom coefficients_pass (substituted f terms places) ≡ false → some_atom constant_passes (substituted f terms places) ≡ false → IsOver places (substituted f terms places)
+result_placed f terms places all o few small = over f terms places (length terms) places (record { substitutes = all; enough = omega arith; shift = omega arith }) o few small
+
 pub result_over : (f : Formula) (terms : List Linear) (places : ℕ) → All (IsSubstitute places) terms → IsOver (length terms) f → some_atom coefficients_pass (substituted f terms places) ≡ false → some_atom constant_passes (substituted f terms places) ≡ false → IsOver places (substituted f terms places)
-result_over f terms places all o few small = over f terms places (length terms) places (record { substitutes = all; enough = omega arith; shift = omega arith }) o few small
+result_over f terms places all o few small = result_placed f terms places (λ k d lt. (all k d lt).places_below) o few small

@@ -35,7 +35,18 @@ impl Passed {
         }
     }
 
-    fn or(self, other: Passed) -> Passed
+    /// Which limits the atom passes.
+    pub fn of(atom: &Linear) -> Passed
+        ensures { IsAtomJudged result atom.now }
+    {
+        Passed {
+            coefficients: great_coefficients(atom),
+            constant: great_constant(atom),
+        }
+    }
+
+    /// What is found of either.
+    pub fn or(self, other: Passed) -> Passed
         ensures { result ≡ either_of self other }
     {
         Passed {
@@ -53,8 +64,8 @@ fn magnitude(term: &(u32, i128)) -> u128
     term.1.unsigned_abs()
 }
 
-/// Whether the magnitudes of the coefficients sum to more than 2^24.
-pub fn great_coefficients(atom: &Linear) -> bool
+// Whether the magnitudes of the coefficients sum to more than 2^24.
+fn great_coefficients(atom: &Linear) -> bool
     ensures { result ≡ coefficients_pass atom.now }
 {
     let mut sum: u128 = 0;
@@ -67,8 +78,8 @@ pub fn great_coefficients(atom: &Linear) -> bool
     false
 }
 
-/// Whether the constant is more than 2^40 in magnitude.
-pub fn great_constant(atom: &Linear) -> bool
+// Whether the constant is more than 2^40 in magnitude.
+fn great_constant(atom: &Linear) -> bool
     ensures { result ≡ constant_passes atom.now }
 {
     atom.constant().unsigned_abs() > 1 << 40
@@ -83,10 +94,7 @@ fn judge_atom(alloc: Global, atom: &Linear, terms: &[Linear], places: u32) -> Re
     ensures { IfOk result (λ p. IsAtomJudged p (substituted_term terms.now places atom.now)) }
 {
     match substituted_atom(alloc, atom, terms, places) {
-        Ok(atom) => Ok(Passed {
-            coefficients: great_coefficients(&atom),
-            constant: great_constant(&atom),
-        }),
+        Ok(atom) => Ok(Passed::of(&atom)),
         Err(error) => Err(error),
     }
 }

@@ -8,8 +8,9 @@ mod laws;
 mod substitution;
 
 pub use errors::FormError;
+pub use judging::Passed;
 pub use laws::substitution_replaces_values;
-pub use substitution::subst;
+pub use substitution::{judge, replace, subst};
 
 #[cfg(test)]
 mod tests;

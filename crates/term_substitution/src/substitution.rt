@@ -6,11 +6,12 @@ ghost use Rattle.formula_core.specs.Counts.{nodes_of, depth_of};
 ghost use Rattle.formula_core.specs.Shape.{formula_of};
 ghost use Rattle.term_substitution.specs.Conditions.{HasTermsOver, IsOver, IsSubstitute, variables_limit};
 ghost use Rattle.term_substitution.specs.Limits.{IsRefused, depth_limit, first_passed, nodes_limit};
+ghost use Rattle.term_substitution.specs.Passing.{AreAtomsJudged};
 ghost use Rattle.term_substitution.specs.Substitution.{substituted};
 
 use crate::errors::FormError;
 use crate::images::substituted_atom;
-use crate::judging::judge_atoms;
+use crate::judging::{Passed, judge_atoms};
 use formula_core::{Formula, Linear};
 use lash_io::Memory;
 use std::alloc::Global;
@@ -41,15 +42,55 @@ pub fn subst(
     ensures over { IfOk result (λ g. IsOver places (formula_of g)) }
     ensures cause { IfErr result (λ e. IsRefused (substituted (formula_of formula.now) terms.now places) e) }
 {
-    match judge_atoms(alloc, formula, terms, places) {
+    match judge(alloc, formula, terms, places) {
         Ok(passed) => match passed.first() {
             Some(error) => Err(error),
-            None => match replaced(alloc, formula, terms, places) {
+            None => match replace(alloc, formula, terms, places) {
                 Ok(result) => Ok(result),
                 Err(_) => Err(FormError::Memory),
             },
         },
         Err(_) => Err(FormError::Memory),
+    }
+}
+
+/// Which limits some atom of the result of `subst` passes. The conditions are the same.
+pub fn judge(
+    alloc: Global,
+    formula: &Formula,
+    terms: &[Linear],
+    places: u32,
+) -> Result<Passed, Memory>
+    requires count { length terms.now ≤ variables_limit }
+    requires places { places ≤ variables_limit }
+    requires terms { All (IsSubstitute places) terms.now }
+    requires over { IsOver (length terms.now) (formula_of formula.now) }
+    requires depth { depth_of (formula_of formula.now) ≤ depth_limit }
+    ensures { IfOk result (λ p. AreAtomsJudged p (substituted (formula_of formula.now) terms.now places)) }
+{
+    match judge_atoms(alloc, formula, terms, places) {
+        Ok(passed) => Ok(passed),
+        Err(error) => Err(error),
+    }
+}
+
+/// The result of `subst` whatever limits it passes. The conditions are the same.
+pub fn replace(
+    alloc: Global,
+    formula: &Formula,
+    terms: &[Linear],
+    places: u32,
+) -> Result<Formula, Memory>
+    requires count { length terms.now ≤ variables_limit }
+    requires places { places ≤ variables_limit }
+    requires terms { All (IsSubstitute places) terms.now }
+    requires over { IsOver (length terms.now) (formula_of formula.now) }
+    requires depth { depth_of (formula_of formula.now) ≤ depth_limit }
+    ensures { IfOk result (λ g. formula_of g ≡ substituted (formula_of formula.now) terms.now places) }
+{
+    match replaced(alloc, formula, terms, places) {
+        Ok(result) => Ok(result),
+        Err(error) => Err(error),
     }
 }
 

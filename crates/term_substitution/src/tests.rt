@@ -5,7 +5,6 @@ ghost use Rattle.formula_core.specs.Shape.{formula_of};
 ghost use Rattle.term_substitution.specs.Conditions.{IsOver, IsSubstitute, IsTermOver};
 
 use super::*;
-use crate::judging::{great_coefficients, great_constant};
 use formula_core::{Formula, Linear, Sort, depth, nodes};
 use std::alloc::Global;
 use std::test::Fail;
@@ -43,7 +42,8 @@ fn are_substitutes(terms: &[Linear], places: u32) -> bool
 fn is_term_over(count: u32, atom: &Linear) -> bool
     ensures { IsTrue result → IsTermOver count atom.now }
 {
-    are_below(atom.terms(), count) && !great_coefficients(atom) && !great_constant(atom)
+    let passed = Passed::of(atom);
+    are_below(atom.terms(), count) && !passed.coefficients && !passed.constant
 }
 
 // Whether the formula is over so many variables, with atoms inside the limits.

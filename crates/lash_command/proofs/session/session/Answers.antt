@@ -1,11 +1,12 @@
 use Rattle.std.proofs.Common.{arith, ◌∙◌, sym, ap, subst, []}
 use Rattle.script_parse.specs.Answers.{State}
+use Rattle.statement_answers.specs.Keeping.{Library, sets_kept}
 use Rattle.lash_command.specs.Answers.{Outside, HasCome}
 use Rattle.lash_command.proofs.Coming.{come_none}
 use Rattle.lash_command.proofs.session.session.Goals as goal
 
 pub returns-in-Err : goal.returns-in-Err
-returns-in-Err g c = (0, record { progress = record { given = 0; held = [] }; come = come_none (record { left = g.S.Source.left c.args.input.now; read_faults = g.S.Source.faults c.args.input.now; held = g.K.Sink.held c.args.out.now; write_faults = g.K.Sink.faults c.args.out.now }); is = tt })
+returns-in-Err g c = (0, record { kept = []; progress = record { given = 0; held = [] }; come = come_none (record { left = g.S.Source.left c.args.input.now; read_faults = g.S.Source.faults c.args.input.now; held = g.K.Sink.held c.args.out.now; write_faults = g.K.Sink.faults c.args.out.now }); is = tt })
 
 pub statements-init : goal.statements-init
 statements-init g c =
@@ -15,5 +16,5 @@ statements-init g c =
       live = ap (λ (s : State). s.live) c.in-Ok.ensures;
       few = omega arith;
       within = omega (arith, ap (λ (s : State). s.progress.given) c.in-Ok.ensures);
-      come = subst (λ (s : State). HasCome o o s.progress 0) (sym c.in-Ok.ensures) (come_none o);
+      come = subst (λ (l : Library). HasCome o o (sets_kept l) c.in-Ok.statements.progress 0) (sym c.new-library.ensures) (subst (λ (s : State). HasCome o o [] s.progress 0) (sym c.in-Ok.ensures) (come_none o));
     }

@@ -14,4 +14,4 @@ pub read_tokens-requires-clause-named : goal.read_tokens-requires-clause-named
 read_tokens-requires-clause-named c = subst AreNamed (sym c.in-Ok.ensures ∙ ap (map placed_of) (sym c.deref.ensures.value)) (are_named c.args.given c.args.piece.now)
 
 pub returns-in-Ok-read_tokens : goal.returns-in-Ok-read_tokens
-returns-in-Ok-read_tokens c = absurd (rest_spells_none c.args.given c.args.piece.now (map placed_of c.deref.result.now) c.in-Ok-read_tokens.ensures.set c.requires.unended (ap (map placed_of) c.deref.ensures.value ∙ c.in-Ok.ensures) c.in-Ok-read_tokens.ensures.spells)
+returns-in-Ok-read_tokens c = absurd (rest_spells_none c.args.given c.args.piece.now (map placed_of c.deref.result.now) c.in-Ok-read_tokens.ensures.shape c.requires.unended (ap (map placed_of) c.deref.ensures.value ∙ c.in-Ok.ensures) c.in-Ok-read_tokens.ensures.spells)

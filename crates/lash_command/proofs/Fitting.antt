@@ -1,0 +1,214 @@
+-- A statement that was read is one that is answered: its sets are of integers, and its names and numbers are right.
+use Rattle.std.proofs.Common.{◌≡◌, ℕ, zero, suc, ◌+◌, ◌≤◌, ◌<◌, ◌^◌, List, [], ◌∷◌, length, map, get_or, arith, refl, sym, ap, ◌∙◌, subst, Bool, true, false, ◌||◌, ◌&&◌, cond, not, pos, nat_eq, nat_lt, Option, None, Some, inl, inr}
+use Rattle.std.specs.List.{All, position, slice_get}
+use Rattle.std.specs.Option.{option_map}
+use Rattle.std.proofs.lemmas.Bool.{ltb-false, ltb-true, eqb-true, true≢false}
+use Rattle.std.proofs.lemmas.Int.{ints}
+use Rattle.std.proofs.lemmas.List.{length-map}
+use Rattle.parser_laws.proofs.Parts.{same_some, not_none}
+use Rattle.std.proofs.lemmas.List.Quantifiers.{position-Some}
+use Rattle.std.specs.Prelude.{unsigned_abs}
+use Rattle.lash_model.specs.Formulas.{Sort, Formula, Le}
+use Rattle.formula_core.specs.Variables.{sorts_of}
+use Rattle.fraction_codes.specs.Fractions.{IsSmall}
+use Rattle.fraction_codes.specs.declared.ratio.Ratio.{Ratio}
+use Rattle.term_substitution.specs.Conditions.{variables_limit}
+use Rattle.script_syntax.specs.Trees.{Named, DeclarationShape, TreeShape}
+use Rattle.script_statements.specs.Values.{RationalShape}
+use Rattle.script_statements.specs.Statements.{ComprehensionShape, StatementShape, Show, Set, Print, Solve, Test, Equal, Subset, Check, Loop}
+use Rattle.script_names.specs.Kept.{KeptSet, IsKept, kept_place, kept_set, set_at, sets_limit}
+use Rattle.script_names.specs.Faults.{or_else, fault_at, unknown, repeated, set_fault}
+use Rattle.script_names.specs.declared.names.FaultAt.{FaultAt}
+use Rattle.script_names.specs.declared.names.NameFault.TheVariants.{Misused}
+use Rattle.script_names.specs.Scopes.{with_declared}
+use Rattle.script_meaning.specs.Core.{core, signed}
+use Rattle.script_meaning.specs.Limits.{literal_limit}
+use Rattle.script_meaning.specs.Resolving.{IsWithin}
+use Rattle.script_tokens.specs.Tokens.{PlacedToken}
+use Rattle.script_tokens.specs.Lexing.{tokens_of}
+use Rattle.script_pieces.specs.Taking.{Progress}
+use Rattle.script_parse.specs.Answers.{Spells, IsNext}
+use Rattle.script_parse.specs.Plain.{IsPlainSet, IsPlainTree, IsPlainStatement}
+use Rattle.statement_meaning.specs.Asking as ask
+use Rattle.statement_meaning.specs.Asking.{Asked, asked, asked_of, of_both}
+use Rattle.statement_meaning.specs.Values.{ratio_of, values_pass, IsQuotient}
+use Rattle.statement_meaning.specs.Judging.{IsJudged, IsStatementWithin, statement_fault, tested_fault, other_fault, compared_fault, is_full, same_sort, same_sorts}
+use Rattle.statement_meaning.specs.declared.statement.Statement.{Statement}
+use Rattle.statement_answers.specs.Automata.{IsGiven}
+use Rattle.statement_answers.specs.Keeping.{OfKept, OfTwo}
+use Rattle.statement_answers.specs.Pieces.{IsFit, FitsVariables}
+use Rattle.lash_command.proofs.GivenSets.{IsFine, AreFine, given_set, within_none, substituted_over}
+
+-- the kept sets are of integers and inside all limits
+abbrev pub AreGiven : List KeptSet → Type 0
+AreGiven kept = All (λ k. IsGiven k.vars k.formula) kept
+
+-- what stands at a place
+all_at : {A : Type 0} (P : A → Type 0) (xs : List A) (i : ℕ) (x : A) → All P xs → slice_get xs i ≡ Some x → P x
+all_at P [] i x h e = absurd (not_none x e)
+all_at P (y ∷ ys) zero x h e = subst P (same_some y x e) (h 0 y (omega arith))
+all_at P (y ∷ ys) (suc i) x h e = all_at P ys i x (λ k d lt. h (suc k) d (omega (arith, lt))) e
+
+pub fine_of : (kept : List KeptSet) → AreGiven kept → AreFine kept
+fine_of kept h name k e = by (kept_place kept name) e
+  where
+    fine : IsGiven k.vars k.formula → IsFine k
+    fine g = record { over = g.over; bound = g.bound }
+
+    by : (o : Option ℕ) → set_at kept o ≡ Some k → IsFine k
+    by None e = absurd (not_none k e)
+    by (Some at) e = fine (all_at (λ k. IsGiven k.vars k.formula) kept at k h e)
+
+-- the set at a place
+record Here (kept : List KeptSet) (at : ℕ) : Type 0 where
+  set : KeptSet
+  got : slice_get kept at ≡ Some set
+
+here : (kept : List KeptSet) (at : ℕ) → at < length kept → Here kept at
+here [] at lt = absurd (omega (arith, lt))
+here (k ∷ ks) zero lt = record { set = k; got = refl }
+here (k ∷ ks) (suc at) lt = let rest = here ks at (omega (arith, lt)) in record { set = rest.set; got = rest.got }
+
+place_below : (kept : List KeptSet) (name : List ℕ) (at : ℕ) → kept_place kept name ≡ Some at → at < length kept
+place_below kept name at e = (position-Some _ kept at nothing e).0
+  where
+    nothing : KeptSet
+    nothing = record { name = []; vars = []; formula = Le (record { terms = []; constant = pos 0 }) }
+
+new_name : (name : Named) (p : Option ℕ) (y : Option FaultAt) → or_else (repeated name p) y ≡ None → p ≡ None
+new_name name None y e = refl
+new_name name (Some at) y e = absurd (not_none _ (sym e))
+
+has_room : (kept : List KeptSet) → is_full kept ≡ false → length kept < sets_limit
+has_room kept e = by (nat_lt (length kept) sets_limit) refl e
+  where
+    by : (b : Bool) → nat_lt (length kept) sets_limit ≡ b → not b ≡ false → length kept < sets_limit
+    by true q e = ltb-true (length kept) sets_limit q
+    by false q e = absurd (true≢false e)
+
+few_variables : (n : ℕ) → 2 ^ n ≤ 4096 → n ≤ variables_limit
+few_variables n h = omega (arith, h, below_power n)
+  where
+    below_power : (n : ℕ) → n + 1 ≤ 2 ^ n
+    below_power zero = omega arith
+    below_power (suc n) = omega (arith, below_power n)
+
+kept_inside : (kept : List KeptSet) (name : List ℕ) (set : ComprehensionShape) (full : Bool) → AreFine kept → IsGiven (ask.vars_of set) (ask.core_of kept set) → IsWithin full 2 (length set.vars) set.formula (ask.core_of kept set) → IsKept (record { name = name; vars = ask.vars_of set; formula = ask.core_of kept set })
+kept_inside kept name set full fine given within =
+    let limits = within_none full 2 (length set.vars) set.formula (ask.core_of kept set) within in
+    record {
+      few = few_variables (length (ask.vars_of set)) given.letters.0;
+      over = substituted_over (length (ask.vars_of set)) (ask.core_of kept set) given.over;
+      nodes = limits.nodes;
+      depth = limits.depth;
+    }
+
+-- the values of a test are small
+signed_small : (minus : Bool) (n : ℕ) → n ≤ 2 ^ 64 → unsigned_abs (signed minus n) ≤ 2 ^ 100
+signed_small true zero h = omega arith
+signed_small true (suc n) h = omega (arith, h)
+signed_small false n h = omega (arith, h)
+
+left_false : (x y : Bool) → (x || y) ≡ false → x ≡ false
+left_false true y e = e
+left_false false y e = refl
+
+right_false : (x y : Bool) → (x || y) ≡ false → y ≡ false
+right_false true y e = absurd (true≢false e)
+right_false false y e = e
+
+values_small : (vs : List RationalShape) → values_pass vs ≡ false → All IsQuotient vs → All IsSmall (map ratio_of vs)
+values_small [] e h k d lt = absurd (omega (arith, lt))
+values_small (v ∷ vs) e h zero d lt =
+    let both = left_false (nat_lt literal_limit v.numerator || nat_lt literal_limit v.denominator) (values_pass vs) e in
+    record {
+      positive = let below = (h 0 v (omega arith)).positive in omega (arith, ints, below);
+      den = omega (arith, ltb-false literal_limit v.denominator (right_false (nat_lt literal_limit v.numerator) (nat_lt literal_limit v.denominator) both));
+      num = signed_small v.minus v.numerator (ltb-false literal_limit v.numerator (left_false (nat_lt literal_limit v.numerator) (nat_lt literal_limit v.denominator) both));
+    }
+values_small (v ∷ vs) e h (suc k) d lt = values_small vs (right_false (nat_lt literal_limit v.numerator || nat_lt literal_limit v.denominator) (values_pass vs) e) (λ i x below. h (suc i) x (omega (arith, below))) k d (omega (arith, lt))
+
+same_count : (name : Named) (n m : ℕ) → cond (nat_eq n m) None (fault_at Misused name) ≡ None → n ≡ m
+same_count name n m e = by (nat_eq n m) refl e
+  where
+    by : (b : Bool) → nat_eq n m ≡ b → cond b None (fault_at Misused name) ≡ None → n ≡ m
+    by true q e = eqb-true n m q
+    by false q e = absurd (not_none _ (sym e))
+
+sorts_long : (ss ts : List Sort) → same_sorts ss ts ≡ true → length ss ≡ length ts
+sorts_long [] [] e = refl
+sorts_long [] (t ∷ ts) e = absurd (true≢false (sym e))
+sorts_long (s ∷ ss) [] e = absurd (true≢false (sym e))
+sorts_long (s ∷ ss) (t ∷ ts) e = ap suc (sorts_long ss ts (both (same_sort s t) e))
+  where
+    both : (b : Bool) → (b && same_sorts ss ts) ≡ true → same_sorts ss ts ≡ true
+    both true e = e
+    both false e = absurd (true≢false (sym e))
+
+same_long : (name : Named) (j k : KeptSet) → other_fault name (Some j) (Some k) ≡ None → length j.vars ≡ length k.vars
+same_long name j k e = by (same_sorts (sorts_of j.vars) (sorts_of k.vars)) refl e
+  where
+    by : (b : Bool) → same_sorts (sorts_of j.vars) (sorts_of k.vars) ≡ b → cond b None (fault_at Misused name) ≡ None → length j.vars ≡ length k.vars
+    by true q e = sym (length-map j.vars (λ v. v.1)) ∙ sorts_long (sorts_of j.vars) (sorts_of k.vars) q ∙ length-map k.vars (λ v. v.1)
+    by false q e = absurd (not_none _ (sym e))
+
+-- two sets that are compared
+both_fit : (kept : List KeptSet) (f : ℕ → ℕ → Asked) (a b : Named) (x : Asked) → ((i j : ℕ) → OfTwo kept i j (λ k l. length k.vars ≡ length l.vars) → IsFit kept (f i j)) → compared_fault kept a b ≡ None → of_both f (kept_place kept a.left) (kept_place kept b.left) ≡ Some x → IsFit kept x
+both_fit kept f a b x fit names e = by (kept_place kept a.left) (kept_place kept b.left) refl refl names e
+  where
+    by : (o p : Option ℕ) → kept_place kept a.left ≡ o → kept_place kept b.left ≡ p → or_else (unknown a o) (other_fault b (set_at kept o) (set_at kept p)) ≡ None → of_both f o p ≡ Some x → IsFit kept x
+    by None p q r names e = absurd (not_none x e)
+    by (Some i) None q r names e = absurd (not_none x e)
+    by (Some i) (Some j) q r names e =
+        let left = here kept i (place_below kept a.left i q) in
+        let right = here kept j (place_below kept b.left j r) in
+        subst (IsFit kept) (same_some (f i j) x e) (fit i j (left.set, (left.got, (right.set, (right.got, same_long b left.set right.set (subst (λ o. other_fault b o (Some right.set) ≡ None) left.got (subst (λ o. other_fault b (slice_get kept i) o ≡ None) right.got names)))))))
+
+one_fits : (kept : List KeptSet) (f : ℕ → Asked) (name : Named) (x : Asked) → ((i : ℕ) → i < length kept → IsFit kept (f i)) → option_map f (kept_place kept name.left) ≡ Some x → IsFit kept x
+one_fits kept f name x fit e = by (kept_place kept name.left) refl e
+  where
+    by : (o : Option ℕ) → kept_place kept name.left ≡ o → option_map f o ≡ Some x → IsFit kept x
+    by None q e = absurd (not_none x e)
+    by (Some i) q e = subst (IsFit kept) (same_some (f i) x e) (fit i (place_below kept name.left i q))
+
+test_fits : (kept : List KeptSet) (name : Named) (vs : List RationalShape) (x : Asked) → All IsQuotient vs → tested_fault name (kept_set kept name.left) (length vs) ≡ None → IsStatementWithin 2 kept (Test name vs) → option_map (λ at. ask.Test at (map ratio_of vs)) (kept_place kept name.left) ≡ Some x → IsFit kept x
+test_fits kept name vs x quotients names within e = by (kept_place kept name.left) refl names e
+  where
+    by : (o : Option ℕ) → kept_place kept name.left ≡ o → tested_fault name (set_at kept o) (length vs) ≡ None → option_map (λ at. ask.Test at (map ratio_of vs)) o ≡ Some x → IsFit kept x
+    by None q names e = absurd (not_none x e)
+    by (Some i) q names e =
+        let h = here kept i (place_below kept name.left i q) in
+        subst (IsFit kept) (same_some (ask.Test i (map ratio_of vs)) x e) (
+          h.set,
+          (
+            h.got,
+            record {
+              count = length-map vs ratio_of ∙ same_count name (length vs) (length h.set.vars) (subst (λ o. tested_fault name o (length vs) ≡ None) h.got names);
+              small = values_small vs within.0 quotients;
+              coarse = within.1;
+            },
+          ),
+        )
+
+-- by the statement's shape
+fit : (kept : List KeptSet) → AreGiven kept → (shape : StatementShape) (x : Asked) → IsPlainStatement shape → statement_fault kept shape ≡ None → IsStatementWithin 2 kept shape → asked kept shape ≡ Some x → IsFit kept x
+fit kept h (Show set) x plain names within e = subst (IsFit kept) (same_some _ x e) (given_set kept (fine_of kept h) false set.vars set.formula plain.integers plain.tree within)
+fit kept h (Set name set) x plain names within e =
+    let given = given_set kept (fine_of kept h) (is_full kept) set.vars set.formula plain.integers plain.tree within in
+    let limits = within_none (is_full kept) 2 (length set.vars) set.formula (ask.core_of kept set) within in
+    subst (IsFit kept) (same_some _ x e) ((given, kept_inside kept name.left set (is_full kept) (fine_of kept h) given within), (new_name name (kept_place kept name.left) (set_fault kept set.vars set.formula) names, has_room kept limits.room))
+fit kept h (Print name) x plain names within e = one_fits kept ask.Print name x (λ i lt. lt) e
+fit kept h (Solve name) x plain names within e = one_fits kept ask.Solve name x (λ i lt. lt) e
+fit kept h (Test name vs) x plain names within e = test_fits kept name vs x plain names within e
+fit kept h (Equal a b) x plain names within e = both_fit kept ask.Equal a b x (λ i j two. two) names e
+fit kept h (Subset a b) x plain names within e = both_fit kept ask.Subset a b x (λ i j two. two) names e
+fit kept h (Check f) x plain names within e = subst (IsFit kept) (same_some _ x e) (given_set kept (fine_of kept h) false [] f tt plain within)
+fit kept h (Loop name vars turn) x plain names within e = absurd plain
+
+-- what the reader gives is answered
+pub fits : (kept : List KeptSet) → AreGiven kept → (shape : StatementShape) (s : Statement) → IsPlainStatement shape → IsJudged 2 kept shape s → IsFit kept (asked_of s)
+fits kept h shape s plain j = fit kept h shape (asked_of s) plain j.names j.within j.asks
+
+-- what the reader has given is answered
+pub fits_next : (base : ℕ) (kept : List KeptSet) (p q : Progress) (lb la : Option (List ℕ)) (s : Statement) → base ≡ 2 → AreGiven kept → ((ts : List PlacedToken) (shape : StatementShape) → Spells ts shape → IsPlainStatement shape) → IsNext base kept p q lb la s → IsFit kept (asked_of s)
+fits_next base kept p q lb la s two given plain h = fits kept given h.asks.shape s (plain (tokens_of p.given h.text) h.asks.shape h.asks.spells) (subst (λ b. IsJudged b kept h.asks.shape s) two h.asks.is)

@@ -1,7 +1,0 @@
-use Rattle.std.proofs.Common.{map, drop}
-use Rattle.script_syntax.specs.Trees.{declaration_of}
-use Rattle.script_meaning.proofs.Declaring.{IsDeclaring}
-use Rattle.script_meaning.proofs.names.declare_all.Given as goal
-
-abbrev pub invariant-loop-declaration : goal.invariant-loop-declaration
-invariant-loop-declaration l = IsDeclaring l.initial.scope (map declaration_of l.declarations) l.scope (map declaration_of (drop l.declaration-index l.declarations))

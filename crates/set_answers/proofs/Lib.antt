@@ -1,0 +1,14 @@
+pub mod VectorWords
+pub mod Diagrams
+pub mod SolvingWords
+pub mod Agreeing
+pub mod SharedTracks
+pub mod Including
+pub mod WholeFractions
+pub mod UniqueValues
+pub mod Solved
+pub mod Members
+pub mod LineParts
+pub mod Truth
+pub mod Sending
+pub mod Finding

@@ -1,0 +1,30 @@
+//! Whether two sets agree, and whether a statement without variables is true.
+
+ghost use Rattle.std.specs.Prelude.{◌≡◌, ◌↔◌, ℕ, IsTrue, []};
+ghost use Rattle.lash_model.specs.Formulas.{Formula};
+ghost use Rattle.lash_model.specs.Meaning.{Solves};
+ghost use Rattle.lash_model.specs.Standing.{StandsFor, all_int};
+ghost use Rattle.set_answers.specs.Agreement.{Agree};
+
+use weak_min::{Canon, same};
+
+/// Whether two canonical diagrams are equal. Where both are of one base and over as many tracks, they are so exactly where the same
+/// vectors solve the sets that they stand for. Costs one look at each entry, and takes no memory.
+pub fn equal(left: &Canon, right: &Canon) -> bool
+    ensures table { IsTrue result ↔ (left.now.table ≡ right.now.table) }
+    ensures agree { (n : ℕ) (f g : Formula) → left.now.table.base ≡ right.now.table.base → left.now.table.tracks ≡ n → right.now.table.tracks ≡ n → StandsFor left.now.table (all_int n) f → StandsFor right.now.table (all_int n) g → (IsTrue result ↔ Agree (all_int n) f g) }
+{
+    // Both are canonical.
+    let _left = left.table();
+    let _right = right.table();
+    same(left, right)
+}
+
+/// Whether a diagram of no tracks accepts the empty vector: whether the statement that it stands for is true. Takes no memory.
+pub fn holds(canon: &Canon) -> bool
+    requires { canon.now.table.tracks ≡ 0 }
+    ensures { (f : Formula) → StandsFor canon.now.table [] f → (IsTrue result ↔ Solves [] f [] 1) }
+{
+    let table = canon.table();
+    table.out(table.root(0)) == 1
+}

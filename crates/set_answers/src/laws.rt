@@ -1,0 +1,29 @@
+//! Laws of answers.
+
+ghost use Rattle.std.specs.Prelude.{◌≡◌, ◌↔◌, ℕ, List, length, codes};
+ghost use Rattle.lash_model.specs.Formulas.{Sort, Formula};
+ghost use Rattle.lash_model.specs.Lassos.{Lasso, denominator, numerators};
+ghost use Rattle.lash_model.specs.Meaning.{Solves};
+ghost use Rattle.lash_model.specs.Standing.{StandsFor, all_int};
+ghost use Rattle.lash_model.specs.Tables.{Table, IsTable};
+ghost use Rattle.lash_model.specs.Text.{text_of};
+ghost use Rattle.set_answers.specs.Agreement.{Agree, IsEmptySet, IsCanonicalOf};
+ghost use Rattle.set_answers.specs.Solving.{IsFixedSolution, IsSolved};
+
+/// Of a set of integers `empty` is written exactly where nothing solves it. In every other case the vector of the fixed solution
+/// solves it.
+pub fn empty_where_nothing_solves()
+    ensures empty { (vars : List (List ℕ × Sort)) (t : Table) (n : ℕ) (f : Formula) → IsTable t → t.tracks ≡ n → StandsFor t (all_int n) f → (IsSolved vars t (codes "empty\n") ↔ IsEmptySet (all_int n) f) }
+    ensures solution { (t : Table) (n : ℕ) (f : Formula) (x : Lasso) → IsTable t → t.tracks ≡ n → StandsFor t (all_int n) f → IsFixedSolution t x → Solves (all_int n) f (numerators t.base n x) (denominator t.base x) }
+{}
+
+/// A table has one answer under a list of variables.
+pub fn answers_are_unique()
+    ensures { (vars : List (List ℕ × Sort)) (t : Table) (piece other : List ℕ) → IsTable t → IsSolved vars t piece → IsSolved vars t other → piece ≡ other }
+{}
+
+/// The texts of two canonical tables of one base, under one list of integer variables, are equal exactly where their sets agree.
+pub fn texts_are_equal_where_sets_agree()
+    ensures equal { (base : ℕ) (vars : List (List ℕ × Sort)) (f g : Formula) (t u : Table) → IsCanonicalOf base (length vars) f t → IsCanonicalOf base (length vars) g u → Agree (all_int (length vars)) f g → text_of vars t ≡ text_of vars u }
+    ensures agree { (base : ℕ) (vars : List (List ℕ × Sort)) (f g : Formula) (t u : Table) → IsCanonicalOf base (length vars) f t → IsCanonicalOf base (length vars) g u → text_of vars t ≡ text_of vars u → Agree (all_int (length vars)) f g }
+{}

@@ -1,0 +1,144 @@
+-- What is written for a statement, by its meaning. Own.
+use Rattle.std.specs.Prelude.{ℕ, ◌+◌, ◌<◌, ◌≤◌, ◌≡◌, ◌⊎◌, List, [], ◌∷◌, All, length, codes, Option, None, Result, Ok, Err, ℤ}
+use Rattle.lash_model.specs.Faults.{IsFaultCounted}
+use Rattle.lash_model.specs.Formulas.{Sort, Formula}
+use Rattle.lash_model.specs.Meaning.{Solves}
+use Rattle.lash_model.specs.Tables.{Table}
+use Rattle.lash_model.specs.Text.{text_of}
+use Rattle.graph_laws.specs.Exploring.{IsHeavy}
+use Rattle.formula_core.specs.Variables.{sorts_of}
+use Rattle.fraction_codes.specs.Fractions.{IsSmall, IsCommonDenominator}
+use Rattle.fraction_codes.specs.declared.ratio.Ratio.{Ratio}
+use Rattle.lash_io.specs.Sinks.{Holds, HoldsPart}
+use Rattle.product_ops.specs.Pairs.{pairs}
+use Rattle.set_answers.specs.Agreement.{Agree, Includes}
+use Rattle.set_answers.specs.Differences.{AreWithin, all_tracks}
+use Rattle.set_answers.specs.Solving.{IsSolved}
+use Rattle.set_answers.specs.Vectors.{IsVectorOf}
+use Rattle.set_compile.specs.Steps.{IsRefused}
+use Rattle.set_compile.specs.declared.errors.CompileError.{CompileError}
+use Rattle.set_compile.specs.declared.errors.CompileError.TheVariants.{Heavy as TooHeavy, Memory as NoMemory}
+use Rattle.script_names.specs.Kept.{KeptSet, IsKept, kept_place, sets_limit}
+use Rattle.statement_meaning.specs.Asking.{Asked, Show, Set, Print, Solve, Test, Equal, Subset, Check}
+use Rattle.statement_answers.specs.Automata.{cells_limit, cells_of, IsGiven, IsAnswer}
+use Rattle.statement_answers.specs.Keeping.{kept_cells_limit, cells_of_all, HaveAutomata, OfKept, OfTwo}
+use Rattle.statement_answers.specs.declared.errors.Unanswered.{Unanswered}
+use Rattle.statement_answers.specs.declared.errors.Unanswered.TheVariants.{Heavy, KeptCells, Fault, Memory}
+
+-- the text of the set's automaton
+pub record IsShownAs (vars : List (List ℕ × Sort)) (f : Formula) (piece : List ℕ) : Type 0 where
+  pub table : Table
+  pub answer : IsAnswer vars f table
+  pub text : piece ≡ text_of vars table
+
+-- `empty`, or the solution that its automaton fixes
+pub record IsSolvedAs (vars : List (List ℕ × Sort)) (f : Formula) (piece : List ℕ) : Type 0 where
+  pub table : Table
+  pub answer : IsAnswer vars f table
+  pub solved : IsSolved vars table piece
+
+-- one line where the claim holds, and another where it does not
+abbrev pub IsDecided : List ℕ → List ℕ → Type 0 → List ℕ → Type 0
+IsDecided line other P piece = ((piece ≡ line) × P) ⊎ ((piece ≡ other) × (P → ⊥))
+
+abbrev pub yes_or_no : Type 0 → List ℕ → Type 0
+yes_or_no P piece = IsDecided (codes "yes\n") (codes "no\n") P piece
+
+-- of all numerators over one denominator that are the values
+abbrev pub IsTested : KeptSet → List Ratio → List ℕ → Type 0
+IsTested k values piece = (ns : List ℤ) (d : ℕ) → IsVectorOf values ns d → IsDecided (codes "in\n") (codes "out\n") (Solves (sorts_of k.vars) k.formula ns d) piece
+
+-- the pairs of the two sets' automata are within the limit of cells
+abbrev pub ArePaired : KeptSet → KeptSet → Type 0
+ArePaired k l = (t : Table) × ((u : Table) × ((IsAnswer k.vars k.formula t × IsAnswer l.vars l.formula u) × AreWithin t u cells_limit))
+
+-- or they are not
+abbrev pub AreHeavyPairs : KeptSet → KeptSet → Type 0
+AreHeavyPairs k l = (t : Table) × ((u : Table) × ((IsAnswer k.vars k.formula t × IsAnswer l.vars l.formula u) × IsHeavy (pairs t u (all_tracks t.tracks)) cells_limit))
+
+-- the automata of the kept sets, and that of one more
+pub record IsKeptWith (kept : List KeptSet) (vars : List (List ℕ × Sort)) (f : Formula) (P : ℕ → Type 0) : Type 0 where
+  pub automata : List Table
+  pub have : HaveAutomata kept automata
+  pub table : Table
+  pub answer : IsAnswer vars f table
+  pub cells : P (cells_of_all automata + cells_of table)
+
+-- what is written for a statement, where these sets are kept
+abbrev pub IsPieceOf : List KeptSet → Asked → List ℕ → Type 0
+IsPieceOf kept (Show vars f) piece = IsShownAs vars f piece
+IsPieceOf kept (Set name vars f) piece = (piece ≡ []) × IsKeptWith kept vars f (λ n. n ≤ kept_cells_limit)
+IsPieceOf kept (Print at) piece = OfKept kept at (λ k. IsShownAs k.vars k.formula piece)
+IsPieceOf kept (Solve at) piece = OfKept kept at (λ k. IsSolvedAs k.vars k.formula piece)
+IsPieceOf kept (Test at values) piece = OfKept kept at (λ k. IsTested k values piece)
+IsPieceOf kept (Equal i j) piece = OfTwo kept i j (λ k l. yes_or_no (Agree (sorts_of k.vars) k.formula l.formula) piece)
+IsPieceOf kept (Subset i j) piece = OfTwo kept i j (λ k l. ArePaired k l × yes_or_no (Includes (sorts_of k.vars) k.formula l.formula) piece)
+IsPieceOf kept (Check f) piece = ((t : Table) × IsAnswer [] f t) × IsDecided (codes "true\n") (codes "false\n") (Solves [] f [] 1) piece
+
+-- a construction has too many cells
+abbrev pub IsHeavyAsked : List KeptSet → Asked → Type 0
+IsHeavyAsked kept (Show vars f) = IsRefused 2 (length vars) cells_limit f
+IsHeavyAsked kept (Set name vars f) = IsRefused 2 (length vars) cells_limit f
+IsHeavyAsked kept (Print at) = ⊥
+IsHeavyAsked kept (Solve at) = ⊥
+IsHeavyAsked kept (Test at values) = ⊥
+IsHeavyAsked kept (Equal i j) = ⊥
+IsHeavyAsked kept (Subset i j) = OfTwo kept i j AreHeavyPairs
+IsHeavyAsked kept (Check f) = IsRefused 2 0 cells_limit f
+
+-- the kept sets would have too many cells with this one
+abbrev pub IsTooMuch : List KeptSet → Asked → Type 0
+IsTooMuch kept (Show vars f) = ⊥
+IsTooMuch kept (Set name vars f) = IsKeptWith kept vars f (λ n. kept_cells_limit < n)
+IsTooMuch kept (Print at) = ⊥
+IsTooMuch kept (Solve at) = ⊥
+IsTooMuch kept (Test at values) = ⊥
+IsTooMuch kept (Equal i j) = ⊥
+IsTooMuch kept (Subset i j) = ⊥
+IsTooMuch kept (Check f) = ⊥
+
+-- what answering a statement left of a sink
+abbrev pub Answered : List KeptSet → Asked → Option (List ℕ) → Option (List ℕ) → ℕ → ℕ → {U : Type 0} → Result U Unanswered → Type 0
+Answered kept asked before after faults_before faults_after (Ok u) = (piece : List ℕ) × (IsPieceOf kept asked piece × Holds before after piece)
+Answered kept asked before after faults_before faults_after (Err Heavy) = IsHeavyAsked kept asked × Holds before after []
+Answered kept asked before after faults_before faults_after (Err KeptCells) = IsTooMuch kept asked × Holds before after []
+Answered kept asked before after faults_before faults_after (Err Fault) = IsFaultCounted faults_before faults_after × ((piece : List ℕ) × (IsPieceOf kept asked piece × HoldsPart before after piece))
+Answered kept asked before after faults_before faults_after (Err Memory) = Holds before after []
+
+-- one value for each variable, with a common denominator of at most 65,536
+pub record FitsVariables (k : KeptSet) (values : List Ratio) : Type 0 where
+  pub count : length values ≡ length k.vars
+  pub small : All IsSmall values
+  pub coarse : (d : ℕ) × (IsCommonDenominator values d × (d ≤ 65536))
+
+-- a statement whose names are right and that passes no limit, over integers
+abbrev pub IsFit : List KeptSet → Asked → Type 0
+IsFit kept (Show vars f) = IsGiven vars f
+IsFit kept (Set name vars f) = (IsGiven vars f × IsKept (record { name = name; vars = vars; formula = f })) × ((kept_place kept name ≡ None) × (length kept < sets_limit))
+IsFit kept (Print at) = at < length kept
+IsFit kept (Solve at) = at < length kept
+IsFit kept (Test at values) = OfKept kept at (λ k. FitsVariables k values)
+IsFit kept (Equal i j) = OfTwo kept i j (λ k l. length k.vars ≡ length l.vars)
+IsFit kept (Subset i j) = OfTwo kept i j (λ k l. length k.vars ≡ length l.vars)
+IsFit kept (Check f) = IsGiven [] f
+
+-- the line was put, or a part of it and a fault was counted
+abbrev pub IsSaid : List ℕ → Option (List ℕ) → Option (List ℕ) → ℕ → ℕ → {U : Type 0} → Result U Unanswered → Type 0
+IsSaid line before after faults_before faults_after (Ok u) = Holds before after line
+IsSaid line before after faults_before faults_after (Err Heavy) = ⊥
+IsSaid line before after faults_before faults_after (Err KeptCells) = ⊥
+IsSaid line before after faults_before faults_after (Err Fault) = IsFaultCounted faults_before faults_after × HoldsPart before after line
+IsSaid line before after faults_before faults_after (Err Memory) = ⊥
+
+-- the same of a statement that writes nothing
+abbrev pub KeepsSilent : List KeptSet → Asked → {U : Type 0} → Result U Unanswered → Type 0
+KeepsSilent kept asked (Ok u) = IsPieceOf kept asked []
+KeepsSilent kept asked (Err Heavy) = IsHeavyAsked kept asked
+KeepsSilent kept asked (Err KeptCells) = IsTooMuch kept asked
+KeepsSilent kept asked (Err Fault) = ⊥
+KeepsSilent kept asked (Err Memory) = Unit
+
+-- why the automaton of a set is not there
+abbrev pub unbuilt_of : CompileError → Unanswered
+unbuilt_of TooHeavy = Heavy
+unbuilt_of NoMemory = Memory

@@ -1,0 +1,12 @@
+//! Statements answered over kept sets: what is written for each, and the sets that are kept with their automata.
+#![tactic(auto)]
+
+mod answering;
+mod building;
+mod errors;
+mod library;
+
+pub use answering::answer;
+pub use building::binary;
+pub use errors::Unanswered;
+pub use library::Library;

@@ -1,0 +1,4 @@
+pub mod Members
+pub mod SortLists
+pub mod Filling
+pub mod Excluding
