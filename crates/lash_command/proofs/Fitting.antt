@@ -12,7 +12,6 @@ use Rattle.lash_model.specs.Formulas.{Sort, Formula, Le}
 use Rattle.formula_core.specs.Variables.{sorts_of}
 use Rattle.fraction_codes.specs.Fractions.{IsSmall}
 use Rattle.fraction_codes.specs.declared.ratio.Ratio.{Ratio}
-use Rattle.term_substitution.specs.Conditions.{variables_limit}
 use Rattle.script_syntax.specs.Trees.{Named, DeclarationShape, TreeShape}
 use Rattle.script_statements.specs.Values.{RationalShape}
 use Rattle.script_statements.specs.Statements.{ComprehensionShape, StatementShape, Show, Set, Print, Solve, Test, Equal, Subset, Check, Loop}
@@ -31,13 +30,18 @@ use Rattle.script_parse.specs.Answers.{Spells, IsNext}
 use Rattle.script_parse.specs.Plain.{IsPlainSet, IsPlainTree, IsPlainStatement}
 use Rattle.statement_meaning.specs.Asking as ask
 use Rattle.statement_meaning.specs.Asking.{Asked, asked, asked_of, of_both}
+use Rattle.loop_meaning.specs.Looping.{loop_fault}
 use Rattle.statement_meaning.specs.Values.{ratio_of, values_pass, IsQuotient}
 use Rattle.statement_meaning.specs.Judging.{IsJudged, IsStatementWithin, statement_fault, tested_fault, other_fault, compared_fault, is_full, same_sort, same_sorts}
 use Rattle.statement_meaning.specs.declared.statement.Statement.{Statement}
 use Rattle.statement_answers.specs.Automata.{IsGiven}
 use Rattle.statement_answers.specs.Keeping.{OfKept, OfTwo}
 use Rattle.statement_answers.specs.Pieces.{IsFit, FitsVariables}
-use Rattle.lash_command.proofs.GivenSets.{IsFine, AreFine, given_set, within_none, substituted_over}
+use Rattle.statement_answers.proofs.Conditions.{substituted_over}
+use Rattle.statement_answers.proofs.Pairing.{few_places}
+use Rattle.statement_answers.proofs.Shelving.{here}
+use Rattle.lash_command.proofs.GivenSets.{left_false, right_false, IsFine, AreFine, given_set, within_none}
+use Rattle.lash_command.proofs.LoopBodies.{loop_fits}
 
 -- the kept sets are of integers and inside all limits
 abbrev pub AreGiven : List KeptSet → Type 0
@@ -59,16 +63,6 @@ fine_of kept h name k e = by (kept_place kept name) e
     by None e = absurd (not_none k e)
     by (Some at) e = fine (all_at (λ k. IsGiven k.vars k.formula) kept at k h e)
 
--- the set at a place
-record Here (kept : List KeptSet) (at : ℕ) : Type 0 where
-  set : KeptSet
-  got : slice_get kept at ≡ Some set
-
-here : (kept : List KeptSet) (at : ℕ) → at < length kept → Here kept at
-here [] at lt = absurd (omega (arith, lt))
-here (k ∷ ks) zero lt = record { set = k; got = refl }
-here (k ∷ ks) (suc at) lt = let rest = here ks at (omega (arith, lt)) in record { set = rest.set; got = rest.got }
-
 place_below : (kept : List KeptSet) (name : List ℕ) (at : ℕ) → kept_place kept name ≡ Some at → at < length kept
 place_below kept name at e = (position-Some _ kept at nothing e).0
   where
@@ -86,18 +80,11 @@ has_room kept e = by (nat_lt (length kept) sets_limit) refl e
     by true q e = ltb-true (length kept) sets_limit q
     by false q e = absurd (true≢false e)
 
-few_variables : (n : ℕ) → 2 ^ n ≤ 4096 → n ≤ variables_limit
-few_variables n h = omega (arith, h, below_power n)
-  where
-    below_power : (n : ℕ) → n + 1 ≤ 2 ^ n
-    below_power zero = omega arith
-    below_power (suc n) = omega (arith, below_power n)
-
 kept_inside : (kept : List KeptSet) (name : List ℕ) (set : ComprehensionShape) (full : Bool) → AreFine kept → IsGiven (ask.vars_of set) (ask.core_of kept set) → IsWithin full 2 (length set.vars) set.formula (ask.core_of kept set) → IsKept (record { name = name; vars = ask.vars_of set; formula = ask.core_of kept set })
 kept_inside kept name set full fine given within =
     let limits = within_none full 2 (length set.vars) set.formula (ask.core_of kept set) within in
     record {
-      few = few_variables (length (ask.vars_of set)) given.letters.0;
+      few = few_places (length (ask.vars_of set)) given.letters.0;
       over = substituted_over (length (ask.vars_of set)) (ask.core_of kept set) given.over;
       nodes = limits.nodes;
       depth = limits.depth;
@@ -108,14 +95,6 @@ signed_small : (minus : Bool) (n : ℕ) → n ≤ 2 ^ 64 → unsigned_abs (signe
 signed_small true zero h = omega arith
 signed_small true (suc n) h = omega (arith, h)
 signed_small false n h = omega (arith, h)
-
-left_false : (x y : Bool) → (x || y) ≡ false → x ≡ false
-left_false true y e = e
-left_false false y e = refl
-
-right_false : (x y : Bool) → (x || y) ≡ false → y ≡ false
-right_false true y e = absurd (true≢false e)
-right_false false y e = e
 
 values_small : (vs : List RationalShape) → values_pass vs ≡ false → All IsQuotient vs → All IsSmall (map ratio_of vs)
 values_small [] e h k d lt = absurd (omega (arith, lt))
@@ -203,7 +182,8 @@ fit kept h (Test name vs) x plain names within e = test_fits kept name vs x plai
 fit kept h (Equal a b) x plain names within e = both_fit kept ask.Equal a b x (λ i j two. two) names e
 fit kept h (Subset a b) x plain names within e = both_fit kept ask.Subset a b x (λ i j two. two) names e
 fit kept h (Check f) x plain names within e = subst (IsFit kept) (same_some _ x e) (given_set kept (fine_of kept h) false [] f tt plain within)
-fit kept h (Loop name vars turn) x plain names within e = absurd plain
+fit kept h (Loop name vars turn) x plain names within e =
+    subst (IsFit kept) (same_some _ x e) (loop_fits kept (fine_of kept h) (has_room kept) name vars turn plain (new_name name (kept_place kept name.left) (loop_fault kept vars turn) names) within)
 
 -- what the reader gives is answered
 pub fits : (kept : List KeptSet) → AreGiven kept → (shape : StatementShape) (s : Statement) → IsPlainStatement shape → IsJudged 2 kept shape s → IsFit kept (asked_of s)

@@ -2,7 +2,6 @@
 -- the variables, declared and bound, are integers, where those of the kept sets are.
 use Rattle.std.proofs.Common.{◌≡◌, ℕ, zero, suc, ◌+◌, ◌≤◌, ◌<◌, List, [], ◌∷◌, length, map, arith, refl, sym, ◌∙◌, subst, ap, Bool, true, false, ◌||◌, cond, nat_eq, nat_lt, Option, None, Some}
 use Rattle.std.specs.List.{AllByRecursion, All}
-use Rattle.std.specs.Prelude.{is_some}
 use Rattle.std.proofs.lemmas.Bool.{ltb-false, true≢false}
 use Rattle.std.proofs.lemmas.List.{length-append, length-map}
 use Rattle.std.proofs.lemmas.List.Elements.{All-from_recursion}
@@ -19,39 +18,22 @@ use Rattle.script_names.specs.Kept.{KeptSet, kept_set}
 use Rattle.script_names.specs.Scopes.{Scope, variable_of, with_declared}
 use Rattle.script_meaning.specs.Core.{difference, truth, compared, bound_all, argument, callee, called, core}
 use Rattle.script_meaning.specs.Limits.{literal_passes}
-use Rattle.script_meaning.specs.Resolving.{IsWithin}
+use Rattle.script_meaning.specs.Resolving.{IsWithin, first_passed}
 use Rattle.script_meaning.specs.declared.limits.Which.TheVariants.{Literal, Sets, Nodes, Depth, Coefficient, Constant as ConstantLimit}
 use Rattle.script_meaning.proofs.Judging.{bound_some}
 use Rattle.script_meaning.proofs.Placing.{term_below, difference_below}
-use Rattle.term_substitution.specs.Conditions.{IsOver as IsSubstitutedOver}
 use Rattle.term_substitution.specs.Limits.{nodes_limit, depth_limit, coefficients_pass, constant_passes, some_atom}
 use Rattle.term_substitution.specs.Substitution.{substituted}
 use Rattle.term_substitution.proofs.Reaching.{AreBelow, result_placed}
 use Rattle.script_parse.specs.Plain.{IsPlainTree, IsInt}
 use Rattle.set_compile.specs.Conditions.{IsTermOver, IsOver, BindsIntegers}
 use Rattle.statement_answers.specs.Automata.{IsGiven}
+use Rattle.statement_answers.proofs.Conditions.{compiled_over, substituted_over, passed_over}
 
 -- the kept sets are over their variables and bind integers
 pub record IsFine (k : KeptSet) : Type 0 where
   pub over : IsOver (length k.vars) k.formula
   pub bound : BindsIntegers k.formula
-
--- the two crates say it alike
-pub compiled_over : (m : ℕ) (f : Formula) → IsSubstitutedOver m f → IsOver m f
-compiled_over m (CoreLe a) h = record { places = h.places; inside = h.inside }
-compiled_over m (CoreEq a) h = record { places = h.places; inside = h.inside }
-compiled_over m (CoreNot f) h = compiled_over m f h
-compiled_over m (CoreAnd f g) h = (compiled_over m f h.0, compiled_over m g h.1)
-compiled_over m (CoreOr f g) h = (compiled_over m f h.0, compiled_over m g h.1)
-compiled_over m (CoreExists s f) h = compiled_over (m + 1) f h
-
-pub substituted_over : (m : ℕ) (f : Formula) → IsOver m f → IsSubstitutedOver m f
-substituted_over m (CoreLe a) h = record { places = h.places; inside = h.inside }
-substituted_over m (CoreEq a) h = record { places = h.places; inside = h.inside }
-substituted_over m (CoreNot f) h = substituted_over m f h
-substituted_over m (CoreAnd f g) h = (substituted_over m f h.0, substituted_over m g h.1)
-substituted_over m (CoreOr f g) h = (substituted_over m f h.0, substituted_over m g h.1)
-substituted_over m (CoreExists s f) h = substituted_over (m + 1) f h
 
 -- substitution binds what was bound
 substituted_bound : (f : Formula) (terms : List Linear) (places : ℕ) → BindsIntegers f → BindsIntegers (substituted f terms places)
@@ -138,11 +120,11 @@ bound_over m Forall (d ∷ ds) f h = bound_over (m + 1) Forall ds f (subst (λ k
 length_declared : (scope : Scope) (ds : List DeclarationShape) → length (with_declared scope ds) ≡ length scope + length ds
 length_declared scope ds = omega (arith, length-append scope (map variable_of ds), length-map ds variable_of)
 
-left_false : (x y : Bool) → (x || y) ≡ false → x ≡ false
+pub left_false : (x y : Bool) → (x || y) ≡ false → x ≡ false
 left_false true y e = e
 left_false false y e = refl
 
-right_false : (x y : Bool) → (x || y) ≡ false → y ≡ false
+pub right_false : (x y : Bool) → (x || y) ≡ false → y ≡ false
 right_false true y e = absurd (true≢false e)
 right_false false y e = e
 
@@ -167,7 +149,7 @@ bound_none : (q : Quantifier) (ds : List DeclarationShape) (f : Formula) → Pas
 bound_none q ds f h = record { few = sym (bound_some coefficients_pass q ds f) ∙ h.few; small = sym (bound_some constant_passes q ds f) ∙ h.small }
 
 -- a tree's core formula whose atoms pass no limit is over the scope
-core_within : (kept : List KeptSet) → AreFine kept → (scope : Scope) (f : TreeShape) → PassesNone (core kept scope f) → IsOver (length scope) (core kept scope f)
+pub core_within : (kept : List KeptSet) → AreFine kept → (scope : Scope) (f : TreeShape) → PassesNone (core kept scope f) → IsOver (length scope) (core kept scope f)
 core_within kept fine scope (Truth b) h = truth_over (length scope) b h.few h.small
 core_within kept fine scope (Compare a r b) h = compared_over scope a r b h.few h.small
 core_within kept fine scope (Call name ts) h = called_over (callee (kept_set kept name.left) (length ts)) scope ts (callee_fine (kept_set kept name.left) (length ts) (fine name.left)) h.few h.small
@@ -182,15 +164,6 @@ core_within kept fine scope (Equivalent f g) h =
     ((left, right), (right, left))
 core_within kept fine scope (Quantified q ds f) h = bound_over (length scope) q ds (core kept (with_declared scope ds) f) (subst (λ m. IsOver m (core kept (with_declared scope ds) f)) (length_declared scope ds) (core_within kept fine (with_declared scope ds) f (bound_none q ds (core kept (with_declared scope ds) f) h)))
 
--- where the choice is none, the test failed, and what comes behind it is none
-record IsPassed {A : Type 0} (b : Bool) (o : Option A) : Type 0 where
-  test : b ≡ false
-  rest : o ≡ None
-
-passed_over : {A : Type 0} (b : Bool) (x : A) (o : Option A) → cond b (Some x) o ≡ None → IsPassed b o
-passed_over true x o e = absurd (true≢false (ap is_some e))
-passed_over false x o e = record { test = refl; rest = e }
-
 -- what is known of a formula that passes no limit
 pub record PassesLimits (full : Bool) (f : Formula) : Type 0 where
   pub atoms : PassesNone f
@@ -198,14 +171,17 @@ pub record PassesLimits (full : Bool) (f : Formula) : Type 0 where
   pub depth : depth_of f ≤ depth_limit
   pub room : full ≡ false
 
-pub within_none : (full : Bool) (base places : ℕ) (tree : TreeShape) (f : Formula) → IsWithin full base places tree f → PassesLimits full f
-within_none full base places tree f h =
-    let literals = passed_over (literal_passes tree) Literal _ h.none in
+pub none_passed : (full : Bool) (tree : TreeShape) (f : Formula) → first_passed full tree f ≡ None → PassesLimits full f
+none_passed full tree f e =
+    let literals = passed_over (literal_passes tree) Literal _ e in
     let sets = passed_over full Sets _ literals.rest in
     let nodes = passed_over (nat_lt nodes_limit (nodes_of f)) Nodes _ sets.rest in
     let depth = passed_over (nat_lt depth_limit (depth_of f)) Depth _ nodes.rest in
     let coefficients = passed_over (some_atom coefficients_pass f) Coefficient _ depth.rest in
     record { atoms = record { few = coefficients.test; small = (passed_over (some_atom constant_passes f) ConstantLimit None coefficients.rest).test }; nodes = ltb-false nodes_limit (nodes_of f) nodes.test; depth = ltb-false depth_limit (depth_of f) depth.test; room = sets.test }
+
+pub within_none : (full : Bool) (base places : ℕ) (tree : TreeShape) (f : Formula) → IsWithin full base places tree f → PassesLimits full f
+within_none full base places tree f h = none_passed full tree f h.none
 
 -- the formula of declared variables is over them
 pub given_over : (kept : List KeptSet) → AreFine kept → (full : Bool) (base places : ℕ) (ds : List DeclarationShape) (f : TreeShape) → IsWithin full base places f (core kept (with_declared [] ds) f) → IsOver (length ds) (core kept (with_declared [] ds) f)
@@ -247,7 +223,7 @@ sorts_int (d ∷ ds) h = ap (λ s. s ∷ sorts_of (map variable_of ds)) h.0 ∙ 
 pub given_sorts : (ds : List DeclarationShape) → AllByRecursion IsInt ds → sorts_of (with_declared [] ds) ≡ all_int (length ds)
 given_sorts ds h = sorts_int ds h
 
-variables_int : (ds : List DeclarationShape) → AllByRecursion IsInt ds → AllByRecursion (λ v. v.1 ≡ Int) (map variable_of ds)
+pub variables_int : (ds : List DeclarationShape) → AllByRecursion IsInt ds → AllByRecursion (λ v. v.1 ≡ Int) (map variable_of ds)
 variables_int [] h = tt
 variables_int (d ∷ ds) h = (h.0, variables_int ds h.1)
 

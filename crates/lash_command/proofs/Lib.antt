@@ -1,4 +1,5 @@
 mod GivenSets
+mod LoopBodies
 mod Fitting
 mod Coming
 mod Turning

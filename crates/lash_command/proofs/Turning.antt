@@ -1,23 +1,23 @@
 -- What a turn says: a statement was answered, or the run ends.
 use Rattle.std.proofs.Common.{◌≡◌, ℕ, ◌+◌, ◌≤◌, List, [], ◌++◌, length, inl, inr, refl, subst, Option, None, Some}
 use Rattle.std.specs.Prelude.{Ok, Err}
+use Rattle.lash_io.specs.Sinks.{Holds}
 use Rattle.lash_io.proofs.Holding.{holds_none}
 use Rattle.script_statements.specs.Statements.{StatementShape}
 use Rattle.script_tokens.specs.Lexing.{tokens_of}
 use Rattle.script_pieces.specs.Taking.{Progress}
 use Rattle.script_names.specs.Kept.{KeptSet}
-use Rattle.script_meaning.specs.declared.limits.Which.TheVariants.{KeptCells}
-use Rattle.statement_meaning.specs.Asking.{asked_of}
+use Rattle.statement_meaning.specs.Asking.{Asked, asked_of}
 use Rattle.statement_meaning.specs.Judging.{IsJudged, IsStatementWithin}
 use Rattle.statement_meaning.specs.declared.statement.Statement.{Statement}
 use Rattle.statement_answers.specs.Keeping.{grown}
-use Rattle.statement_answers.specs.Pieces.{IsPieceOf, Answered}
+use Rattle.statement_answers.specs.Pieces.{IsPieceOf, IsHeavyAsked, IsTooMuch, IsPowerless, IsPassedByClosure, Answered}
 use Rattle.statement_answers.specs.declared.errors.Unanswered.{Unanswered}
 use Rattle.statement_answers.specs.declared.errors.Unanswered.TheVariants as answering
 use Rattle.script_parse.specs.Answers.{OfStatement, IsNext, IsFinished, IsStopped, IsCause, Says}
 use Rattle.script_parse.specs.declared.errors.ScriptError.{ScriptError}
 use Rattle.script_parse.specs.declared.errors.ScriptError.TheVariants as reading
-use Rattle.lash_command.specs.Answers.{IsAsking, IsAnswered, Outside, HasCome, Ends, unread_ending, unanswered_ending}
+use Rattle.lash_command.specs.Answers.{IsAsking, IsAnswered, Outside, HasCome, StopsAt, IsNextAsked, Ends, unread_ending, unanswered_ending}
 use Rattle.lash_command.proofs.Coming.{come_taken, come_more, come_kept, counted_since}
 
 -- what the reader says of a statement, and of the end
@@ -60,35 +60,27 @@ turned base kept p q before now left held faults write_faults n s u r h rose sho
     (held_statement base kept p q before now left faults n s r h) h.given
     (answered base kept p q now.left left s shown.0 r.two h shown.1.0) shown.1.1 rose
 
--- a statement was not answered
-pub unanswered_ends : (base : ℕ) (kept : List KeptSet) (p q : Progress) (before now : Outside) (left held : Option (List ℕ)) (faults write_faults n : ℕ) (s : Statement) (U : Type 0) (cause : Unanswered) → Reads base kept p before now faults n → IsNext base kept p q now.left left s → now.write_faults ≤ write_faults → Answered kept (asked_of s) now.held held now.write_faults write_faults {U = U} (Err cause) → Ends (unanswered_ending (n + 1) cause) before (record { left = left; read_faults = faults; held = held; write_faults = write_faults })
-unanswered_ends base kept p q before now left held faults write_faults n s U answering.Heavy r h rose shown = (
+-- the run stops at the statement that was given, of which nothing was written
+stops_at_it : (base : ℕ) (kept : List KeptSet) (p q : Progress) (before now : Outside) (left held : Option (List ℕ)) (faults write_faults n : ℕ) (s : Statement) (P : List KeptSet → Asked → Type 0) → Reads base kept p before now faults n → IsNext base kept p q now.left left s → now.write_faults ≤ write_faults → P kept (asked_of s) → Holds now.held held [] → StopsAt before (record { left = left; read_faults = faults; held = held; write_faults = write_faults }) (n + 1) (IsNextAsked P)
+stops_at_it base kept p q before now left held faults write_faults n s P r h rose is none = (
   n,
   (
     refl,
     record {
       kept = kept;
       progress = record { given = p.given; held = h.text ++ q.held };
-      come = come_kept before (record now { left = left; read_faults = faults }) kept (record { given = p.given; held = h.text ++ q.held }) n held write_faults (held_statement base kept p q before now left faults n s r h) shown.1 rose;
-      is = record { text = h.text; behind = q.held; held = refl; statement = record { whole = h.whole; within = h.within }; asked = asked_of s; asking = asks base kept p q now.left left s r.two h; is = shown.0 };
+      come = come_kept before (record now { left = left; read_faults = faults }) kept (record { given = p.given; held = h.text ++ q.held }) n held write_faults (held_statement base kept p q before now left faults n s r h) none rose;
+      is = record { text = h.text; behind = q.held; held = refl; statement = record { whole = h.whole; within = h.within }; asked = asked_of s; asking = asks base kept p q now.left left s r.two h; is = is };
     },
   ),
 )
-unanswered_ends base kept p q before now left held faults write_faults n s U answering.KeptCells r h rose shown = inr (
-  refl,
-  (
-    n,
-    (
-      refl,
-      record {
-        kept = kept;
-        progress = record { given = p.given; held = h.text ++ q.held };
-        come = come_kept before (record now { left = left; read_faults = faults }) kept (record { given = p.given; held = h.text ++ q.held }) n held write_faults (held_statement base kept p q before now left faults n s r h) shown.1 rose;
-        is = record { text = h.text; behind = q.held; held = refl; statement = record { whole = h.whole; within = h.within }; asked = asked_of s; asking = asks base kept p q now.left left s r.two h; is = shown.0 };
-      },
-    ),
-  ),
-)
+
+-- a statement was not answered
+pub unanswered_ends : (base : ℕ) (kept : List KeptSet) (p q : Progress) (before now : Outside) (left held : Option (List ℕ)) (faults write_faults n : ℕ) (s : Statement) (U : Type 0) (cause : Unanswered) → Reads base kept p before now faults n → IsNext base kept p q now.left left s → now.write_faults ≤ write_faults → Answered kept (asked_of s) now.held held now.write_faults write_faults {U = U} (Err cause) → Ends (unanswered_ending (n + 1) cause) before (record { left = left; read_faults = faults; held = held; write_faults = write_faults })
+unanswered_ends base kept p q before now left held faults write_faults n s U answering.Heavy r h rose shown = stops_at_it base kept p q before now left held faults write_faults n s IsHeavyAsked r h rose shown.0 shown.1
+unanswered_ends base kept p q before now left held faults write_faults n s U answering.NoPower r h rose shown = stops_at_it base kept p q before now left held faults write_faults n s IsPowerless r h rose shown.0 shown.1
+unanswered_ends base kept p q before now left held faults write_faults n s U (answering.Closure which) r h rose shown = inr (inr (stops_at_it base kept p q before now left held faults write_faults n s (IsPassedByClosure which) r h rose shown.0 shown.1))
+unanswered_ends base kept p q before now left held faults write_faults n s U answering.KeptCells r h rose shown = inr (inl (refl, stops_at_it base kept p q before now left held faults write_faults n s IsTooMuch r h rose shown.0 shown.1))
 unanswered_ends base kept p q before now left held faults write_faults n s U answering.Fault r h rose shown = record {
   counted = counted_since before.write_faults now.write_faults write_faults r.come.write_faults shown.0;
   between = now.held;

@@ -16,7 +16,7 @@ use Rattle.statement_meaning.specs.Asking as meaning
 use Rattle.statement_meaning.specs.Asking.{Asked}
 use Rattle.statement_meaning.specs.Judging.{statement_fault, IsStatementWithin}
 use Rattle.statement_answers.specs.Keeping.{grown}
-use Rattle.statement_answers.specs.Pieces.{IsPieceOf, IsHeavyAsked, IsTooMuch}
+use Rattle.statement_answers.specs.Pieces.{IsPieceOf, IsHeavyAsked, IsTooMuch, IsPowerless, IsPassedByClosure}
 use Rattle.statement_answers.specs.declared.errors.Unanswered.{Unanswered}
 use Rattle.statement_answers.specs.declared.errors.Unanswered.TheVariants as answering
 use Rattle.script_parse.specs.Answers.{OfStatement, IsCause}
@@ -24,7 +24,7 @@ use Rattle.script_parse.specs.declared.errors.ScriptError.{ScriptError}
 use Rattle.script_parse.specs.declared.errors.ScriptError.TheVariants as reading
 use Rattle.lash_command.specs.Lines.{status_of, line_of, IsReported}
 use Rattle.lash_command.specs.declared.status.Status.{Status}
-use Rattle.lash_command.specs.declared.ending.Refusal.TheVariants.{Syntax, Name, Limit, Heavy}
+use Rattle.lash_command.specs.declared.ending.Refusal.TheVariants.{Syntax, Name, Limit, NoPower, Heavy}
 use Rattle.lash_command.specs.declared.ending.Ending.{Ending}
 use Rattle.lash_command.specs.declared.ending.Ending.TheVariants.{Finished, Usage, Refused, ReadFault, WriteFault, NoMemory, Unbuilt}
 
@@ -147,7 +147,8 @@ Ends Finished before now = StopsSomewhere before now (IsBlankRest now)
 Ends Usage before now = ⊥
 Ends (Refused number (Syntax place)) before now = StopsAt before now number (IsUnread before now (reading.Syntax place))
 Ends (Refused number (Name fault place)) before now = StopsAt before now number (IsUnread before now (reading.Name fault place))
-Ends (Refused number (Limit which)) before now = StopsAt before now number (IsUnread before now (reading.Limit which)) ⊎ ((which ≡ KeptCells) × StopsAt before now number (IsNextAsked IsTooMuch))
+Ends (Refused number (Limit which)) before now = StopsAt before now number (IsUnread before now (reading.Limit which)) ⊎ ((which ≡ KeptCells) × StopsAt before now number (IsNextAsked IsTooMuch)) ⊎ StopsAt before now number (IsNextAsked (IsPassedByClosure which))
+Ends (Refused number NoPower) before now = StopsAt before now number (IsNextAsked IsPowerless)
 Ends (Refused number Heavy) before now = StopsAt before now number (IsNextAsked IsHeavyAsked)
 Ends ReadFault before now = StopsSomewhere before now (IsUnread before now reading.Read)
 Ends WriteFault before now = IsCutShort before now
@@ -182,6 +183,8 @@ unread_ending number reading.Memory = NoMemory
 -- how it ends where the statement of the number is not answered
 abbrev pub unanswered_ending : ℕ → Unanswered → Ending
 unanswered_ending number answering.Heavy = Refused number Heavy
+unanswered_ending number answering.NoPower = Refused number NoPower
+unanswered_ending number (answering.Closure which) = Refused number (Limit which)
 unanswered_ending number answering.KeptCells = Refused number (Limit KeptCells)
 unanswered_ending number answering.Fault = WriteFault
 unanswered_ending number answering.Memory = NoMemory

@@ -10,7 +10,7 @@ use Rattle.script_meaning.specs.declared.limits.Which.TheVariants as limit
 use Rattle.lash_command.specs.declared.status.Status.{Status}
 use Rattle.lash_command.specs.declared.status.Status.TheVariants as status
 use Rattle.lash_command.specs.declared.ending.Refusal.{Refusal}
-use Rattle.lash_command.specs.declared.ending.Refusal.TheVariants.{Syntax, Name, Limit, Heavy}
+use Rattle.lash_command.specs.declared.ending.Refusal.TheVariants.{Syntax, Name, Limit, NoPower, Heavy}
 use Rattle.lash_command.specs.declared.ending.Ending.{Ending}
 use Rattle.lash_command.specs.declared.ending.Ending.TheVariants.{Finished, Usage, Refused, ReadFault, WriteFault, NoMemory, Unbuilt}
 
@@ -27,13 +27,14 @@ code_of status.WriteFault = 7
 code_of status.NoMemory = 8
 code_of status.Unbuilt = 9
 
--- a wrong syntax or name is a fault of the script, and a limit or a heavy step makes it too large
+-- a wrong syntax or name is a fault of the script, and a limit or a heavy step makes it too large; a loop may have no power
 abbrev pub status_of : Ending → Status
 status_of Finished = status.Fine
 status_of Usage = status.Usage
 status_of (Refused k (Syntax place)) = status.Script
 status_of (Refused k (Name fault place)) = status.Script
 status_of (Refused k (Limit which)) = status.TooLarge
+status_of (Refused k NoPower) = status.NoPower
 status_of (Refused k Heavy) = status.TooLarge
 status_of ReadFault = status.ReadFault
 status_of WriteFault = status.WriteFault
@@ -69,6 +70,7 @@ abbrev pub refusal_text : Refusal → List ℕ
 refusal_text (Syntax place) = codes "syntax" ++ place_text place
 refusal_text (Name fault place) = fault_words fault ++ place_text place
 refusal_text (Limit which) = codes "limit " ++ limit_words which
+refusal_text NoPower = codes "no power"
 refusal_text Heavy = codes "heavy"
 
 -- the statement, and why it is refused

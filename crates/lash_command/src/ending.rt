@@ -16,6 +16,8 @@ pub enum Refusal {
     Name { fault: NameFault, place: u64 },
     /// The first limit that is passed.
     Limit { which: Which },
+    /// No power of a loop's matrix comes again.
+    NoPower,
     /// A construction of its tables has more cells than the limit.
     Heavy,
 }
@@ -47,6 +49,7 @@ impl Ending {
             Ending::Refused { refusal, .. } => match refusal {
                 Refusal::Syntax { .. } | Refusal::Name { .. } => Status::Script,
                 Refusal::Limit { .. } | Refusal::Heavy => Status::TooLarge,
+                Refusal::NoPower => Status::NoPower,
             },
             Ending::ReadFault => Status::ReadFault,
             Ending::WriteFault => Status::WriteFault,

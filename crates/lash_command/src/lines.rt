@@ -79,6 +79,7 @@ fn put_refusal<E: Sink>(block: &mut Block, sink: &mut E, refusal: Refusal) -> Re
         Refusal::Syntax { place } => put_place(block, sink, b"syntax", place),
         Refusal::Name { fault, place } => put_place(block, sink, words_of_fault(fault), place),
         Refusal::Limit { which } => put_limit(block, sink, which),
+        Refusal::NoPower => block.put(sink, b"no power"),
         Refusal::Heavy => block.put(sink, b"heavy"),
     }
 }

@@ -14,8 +14,9 @@ use std::alloc::Global;
 /// Runs the program: answers the statements of the script one after another to `out`, until the script's end or the first statement that
 /// is refused, and writes the line of a refusal to `err`. The answer says how it ended.
 ///
-/// `Unbuilt` comes where there are words, or where a statement has the keyword `loop` or `real`. `Script` comes where the syntax or a name is
-/// wrong, `TooLarge` where a limit is passed or a construction has more than 4,194,304 cells, `ReadFault` and `WriteFault` where a fault was
+/// `Unbuilt` comes where there are words, or where a statement has the keyword `real`. `Script` comes where the syntax or a name is
+/// wrong, `TooLarge` where a limit is passed or a construction has more than 4,194,304 cells, `NoPower` where no power of a loop's matrix comes
+/// again, `ReadFault` and `WriteFault` where a fault was
 /// counted, and `NoMemory` may come at any time before a statement's piece is written.
 pub fn run<S: Source, K: Sink, E: Sink>(
     alloc: Global,

@@ -32,6 +32,8 @@ fn unanswered(statement: u64, cause: Unanswered) -> Ending
 {
     let refusal = match cause {
         Unanswered::Heavy => Refusal::Heavy,
+        Unanswered::NoPower => Refusal::NoPower,
+        Unanswered::Closure { which } => Refusal::Limit { which },
         Unanswered::KeptCells => Refusal::Limit {
             which: Which::KeptCells,
         },

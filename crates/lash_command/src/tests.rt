@@ -87,8 +87,6 @@ fn refuses_wrong_statements(rt: HostRuntime) -> Result<(), Fail> {
             repeated
         )?
     );
-    let loops = b"loop L (x int) when true do x := x + 1;";
-    assert!(rt; ends(rt.alloc(), loops, 9, b"", b"lash: unbuilt\n")?);
     assert!(rt;
         ends(
             rt.alloc(),
@@ -255,5 +253,23 @@ fn takes_nothing_where_there_are_words(rt: HostRuntime) -> Result<(), Fail> {
     assert_eq!(rt; status.code(), 9);
     assert_eq!(rt; out.bytes(), b"".as_slice());
     assert_eq!(rt; err.bytes(), b"lash: unbuilt\n".as_slice());
+    Ok(())
+}
+
+/// A loop whose power is 1, one whose power is 2, and one that has none.
+#[test]
+fn keeps_loops(rt: HostRuntime) -> Result<(), Fail> {
+    let script =
+        b"loop L (x int) when x <= 10 do x := x + 1;\ntest L (0, 11);\ntest L (0, 12);\nloop Z (x int) when x <= 0 do x := -x;\ntest Z (-3, 3);\nloop D (x int) when x <= 9 do x := 2*x;\n";
+    let line = b"lash: statement 6: no power\n";
+    assert!(rt; ends(rt.alloc(), script, 4, b"in\nout\nin\n", line)?);
+    Ok(())
+}
+
+#[test]
+fn refuses_a_loop_of_five_variables(rt: HostRuntime) -> Result<(), Fail> {
+    let script = b"loop L (a int, b int, c int, d int, e int) when true do a := a;";
+    let line = b"lash: statement 1: limit loop variables\n";
+    assert!(rt; ends(rt.alloc(), script, 3, b"", line)?);
     Ok(())
 }

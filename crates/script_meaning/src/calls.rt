@@ -22,8 +22,9 @@ use script_syntax::{NameAt, Term};
 use std::alloc::Global;
 use term_substitution::{Passed, judge, replace};
 
-// The term of an argument.
-fn argument(alloc: Global, scope: &Scope<'_>, term: &Term<'_>) -> Result<Linear, Memory>
+/// The term of an argument. No number passes the limit of literals, and there are at most 65,536 variables in scope and at most as many
+/// parts, as conditions. Only want of memory is refused.
+pub fn argument(alloc: Global, scope: &Scope<'_>, term: &Term<'_>) -> Result<Linear, Memory>
     requires scope { length scope.now ≤ terms_limit }
     requires literals { term_passes (term_of term.now) ≡ false }
     requires count { length term.now.parts.items ≤ terms_limit }

@@ -160,7 +160,8 @@ fn bindings(
     }
 }
 
-/// The core formula of a tree whose names are in scope. The scope is afterwards as it was.
+/// The core formula of a tree whose names are in scope. No number passes the limit of literals, and there are at most 65,536 variables in
+/// scope and parts of terms together, as conditions. The scope is afterwards as it was. Only want of memory is refused.
 #[cycle(formulas)]
 pub fn core_formula<'a>(
     alloc: Global,

@@ -18,7 +18,8 @@ fn part_literal(part: &Part<'_>) -> bool
     }
 }
 
-fn term_literal(term: &Term<'_>) -> bool
+/// Whether some number of the term passes the limit of literals.
+pub fn term_literal(term: &Term<'_>) -> bool
     ensures { result ≡ term_passes (term_of term.now) }
 {
     for signed in &term.parts {

@@ -90,8 +90,10 @@ fn named<'a>(
     }
 }
 
-// The first limit that is passed, the letters left out of account. The scope is afterwards as it was.
-fn static_limit<'a>(
+/// The first limit that a formula over the variables in scope passes, the letters left out of account: `Literal`, `Sets` where one more kept
+/// set would be too many, `Nodes`, `Depth`, `Coefficient` or `Constant`. Its names are right, and it has at most 65,536 variables in scope and
+/// parts of terms together, as conditions. The scope is afterwards as it was. Only want of memory is refused.
+pub fn first_limit<'a>(
     alloc: Global,
     defs: &Defs,
     full: bool,
@@ -149,7 +151,7 @@ fn built<'a>(
     requires { length scope.old + size_of (tree_of formula.now) ≤ terms_limit }
     ensures { IsBuilt full base (sets_of defs.now) scope.old (tree_of formula.now) result }
 {
-    match static_limit(alloc, defs, full, scope, formula) {
+    match first_limit(alloc, defs, full, scope, formula) {
         Ok(None) => {}
         Ok(Some(which)) => return Err(Refusal::Limit(which)),
         Err(_) => return Err(Refusal::Memory),

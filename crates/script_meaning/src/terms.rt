@@ -13,8 +13,8 @@ use script_names::Scope;
 use script_syntax::{NameAt, Part, Signed, Term};
 use std::alloc::Global;
 
-// A number with its sign.
-fn with_sign(minus: bool, number: u128) -> i128
+/// A number with its sign. The number is at most 2^64.
+pub fn with_sign(minus: bool, number: u128) -> i128
     requires { number ≤ 2 ^ 64 }
     ensures value { result ≡ signed minus number }
     ensures small { unsigned_abs result ≤ 2 ^ 64 }

@@ -39,8 +39,8 @@ fn argument_part(wanted: Sort, scope: &Scope<'_>, part: &Part<'_>) -> Option<Fau
     }
 }
 
-// The first wrong name of an argument for a variable of the sort.
-fn argument_names(wanted: Sort, scope: &Scope<'_>, term: &Term<'_>) -> Option<FaultAt>
+/// The first wrong name of a term that stands for a variable of the sort: one that is not declared, or a real one where the sort is Int.
+pub fn argument_names(wanted: Sort, scope: &Scope<'_>, term: &Term<'_>) -> Option<FaultAt>
     ensures { result ≡ argument_fault (sort_of wanted) scope.now (term_of term.now) }
 {
     for signed in &term.parts {

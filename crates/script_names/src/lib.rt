@@ -7,6 +7,7 @@ mod listing;
 mod names;
 mod scope;
 
+pub use calls::argument_names;
 pub use kept::{Defs, Name};
 pub use listing::variables;
 pub use names::{FaultAt, NameError, NameFault, check_names, declare_all};

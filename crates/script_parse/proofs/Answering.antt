@@ -24,7 +24,7 @@ spelled ts s built (a, read, shape) = record { built = built; tree = a; read = r
 
 -- it can be judged
 pub readable_tree : (tokens : List Placed) (s : DeclaredTree) → Spells (map placed_of tokens) (statement_of s) → length tokens ≤ 65536 → AreNamed (map placed_of tokens) → IsStatementReadable (statement_of s)
-readable_tree tokens s h few named = subst IsStatementReadable h.is (readable h.tree (subst (λ xs. has_unbuilt xs ≡ false) h.read.spelled h.built) (subst AreNamed h.read.spelled named) (omega (arith, ap length h.read.spelled, length-map tokens placed_of, few)))
+readable_tree tokens s h few named = subst IsStatementReadable h.is (readable h.tree (subst AreNamed h.read.spelled named) (omega (arith, ap length h.read.spelled, length-map tokens placed_of, few)))
 
 -- the answer of the statement is that of the tokens
 pub answered : (base : ℕ) (kept : List KeptSet) (end : ℕ) (ts : List PlacedToken) (shape : StatementShape) (r : Result DeclaredStatement ScriptError) → Spells ts shape → AnswersStatement base kept shape r → AnswersTokens base kept end ts r

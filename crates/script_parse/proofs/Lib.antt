@@ -1,7 +1,7 @@
 pub mod Placing
 pub mod Sizes
 pub mod Ending
-pub mod Built
+pub mod Loops
 pub mod DeclaredNames
 pub mod Quotients
 pub mod Readable

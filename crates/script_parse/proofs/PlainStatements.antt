@@ -1,4 +1,4 @@
--- Tokens with nothing unbuilt spell statements of integers, declared and bound, and no loop: part by part of the grammar.
+-- Tokens with nothing unbuilt spell statements of integers, declared and bound: part by part of the grammar.
 use Rattle.std.proofs.Common.{◌≡◌, List, [], ◌∷◌, ◌++◌, Bool, true, false, ◌||◌, refl, subst}
 use Rattle.std.specs.List.{AllByRecursion}
 use Rattle.std.proofs.lemmas.Bool.{true≢false}
@@ -10,14 +10,13 @@ use Rattle.script_tokens.specs.Tokens.{PlacedToken}
 use Rattle.script_grammar.specs.Views.{is, is_name, sign, at, spell_sort}
 use Rattle.script_grammar.specs.Terms.{called, compared, atom, declaration, declarations}
 use Rattle.script_grammar.specs.Formulas.{Form, Quant, Plain, Iff, OneImp, TwoImps, Imp, OneOr, TwoOrs, Or, Ands, MoreAnds, NoAnd, OrAnd, And, Units, MoreUnits, NoUnit, AndUnit, Unary, Not, Paren, Simple, form_toks, iff_toks, imp_toks, or_toks, more_ands_toks, and_toks, more_units_toks, unary_toks}
-use Rattle.script_grammar.specs.Statements.{header, whole_statement, Statement}
+use Rattle.script_grammar.specs.Statements.{header, turn, whole_statement, Statement}
 use Rattle.script_syntax.specs.Reading.{folded}
 use Rattle.script_syntax.specs.Trees.{DeclarationShape, TreeShape, And as AndShape, Or as OrShape, add_declaration, declaration_shape, declarations_shape, perhaps_declared, header_shape, named_shape, atom_shape, form_shape, iff_shape, imp_shape, or_shape, more_ands_shape, and_shape, more_units_shape, unary_shape}
 use Rattle.script_statements.specs.Statements.{StatementShape, Described, statement_shape, described_shape}
 use Rattle.script_parse.specs.Answers.{Spells}
 use Rattle.script_parse.specs.Unbuilt.{has_unbuilt, is_unbuilt_token}
 use Rattle.script_parse.specs.Plain.{IsPlainTree, IsInt, IsPlainSet, IsPlainStatement}
-use Rattle.script_parse.proofs.Built.{no_loop}
 use Rattle.script_parse.proofs.Quotients.{values_quotients}
 use Rattle.script_parse.proofs.Sizes.{described_toks}
 
@@ -136,7 +135,7 @@ plain_from (other (other (other (other (first x))))) h = values_quotients x.righ
 plain_from (other (other (other (other (other (first x)))))) h = tt
 plain_from (other (other (other (other (other (other (first x))))))) h = tt
 plain_from (other (other (other (other (other (other (other (first x)))))))) h = form_plain x.right.left (front (form_toks x.right.left) (at kind.Semicolon x.right.right ∷ []) (behind_one _ _ h))
-plain_from (other (other (other (other (other (other (other (other x)))))))) h = no_loop x h.is
+plain_from (other (other (other (other (other (other (other (other x)))))))) h = declarations_int x.right.right.right.left (front (declarations.toks x.right.right.right.left) (at kind.Close x.right.right.right.right.left ∷ (at kind.When x.right.right.right.right.right.left ∷ turn.toks x.right.right.right.right.right.right)) (behind_one _ _ (behind_one _ _ (behind_one _ _ h))))
 
 pub spelled_is_plain : (ts : List PlacedToken) (shape : StatementShape) → Spells ts shape → IsPlainStatement shape
 spelled_is_plain ts shape h = subst IsPlainStatement h.is (plain_from h.tree (record { is = subst (λ xs. has_unbuilt xs ≡ false) h.read.spelled h.built }))

@@ -1,4 +1,4 @@
--- Statements of what is built: of integers, declared and bound, and no loops (own).
+-- Statements of what is built: of integers, declared and bound (own).
 use Rattle.std.specs.Prelude.{◌≡◌}
 use Rattle.std.specs.List.{All, AllByRecursion}
 use Rattle.lash_model.specs.Formulas.{Int}
@@ -27,7 +27,7 @@ pub record IsPlainSet (set : ComprehensionShape) : Type 0 where
   pub integers : AllByRecursion IsInt set.vars
   pub tree : IsPlainTree set.formula
 
--- the sets and formulas of the statement are of integers, and it is no loop; the values of a test are quotients
+-- the sets, formulas and loops of the statement are of integers; the values of a test are quotients
 abbrev pub IsPlainStatement : StatementShape → Type 0
 IsPlainStatement (Show set) = IsPlainSet set
 IsPlainStatement (Set name set) = IsPlainSet set
@@ -37,4 +37,4 @@ IsPlainStatement (Test name vs) = All IsQuotient vs
 IsPlainStatement (Equal a b) = Unit {0}
 IsPlainStatement (Subset a b) = Unit {0}
 IsPlainStatement (Check f) = IsPlainTree f
-IsPlainStatement (Loop name vars turn) = ⊥
+IsPlainStatement (Loop name vars turn) = AllByRecursion IsInt vars

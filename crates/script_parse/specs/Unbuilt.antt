@@ -1,4 +1,4 @@
--- What is not built yet: loops, and real variables, declared or bound (own).
+-- What is not built yet: real variables, declared or bound (own).
 use Rattle.std.specs.Prelude.{◌||◌, Bool, false, List, [], ◌∷◌}
 use Rattle.script_tokens.specs.declared.kind.Kind.TheVariants as kind
 use Rattle.script_tokens.specs.Tokens.{Token, Name, Number, Sign, Bad, PlacedToken}
@@ -8,7 +8,7 @@ use Rattle.script_grammar.specs.Views.{same_kind}
 abbrev pub is_unbuilt_token : Token → Bool
 is_unbuilt_token (Name n) = false
 is_unbuilt_token (Number n) = false
-is_unbuilt_token (Sign k) = same_kind k kind.Loop || same_kind k kind.Real
+is_unbuilt_token (Sign k) = same_kind k kind.Real
 is_unbuilt_token Bad = false
 
 -- some token is of what is not built

@@ -26,8 +26,8 @@ pub fn statements_come_in_order()
     ensures { (base : ℕ) (kept : List KeptSet) (before after : Progress) (left_before left_after : List ℕ) (s : Statement) (h : IsNext base kept before after (Some left_before) (Some left_after) s) → cut (before.held ++ left_before) ≡ record { statements = h.text ∷ (cut (after.held ++ left_after)).statements; rest = (cut (after.held ++ left_after)).rest } }
 {}
 
-/// A statement that is given is one of integers, in its declared variables and the bound ones of its formulas, and no loop: whatever has others
-/// is answered as not built.
+/// A statement that is given is one of integers, in its declared variables and the bound ones of its formulas: whatever has others is answered as
+/// not built.
 pub fn built_statements_are_plain()
     ensures { (ts : List PlacedToken) (shape : StatementShape) → Spells ts shape → IsPlainStatement shape }
 {}

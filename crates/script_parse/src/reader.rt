@@ -60,7 +60,7 @@ impl Statements {
     ///
     /// # Errors
     /// `Read` where a read met a fault; else, of the first piece of the bytes ahead, `Limit` where it has too many bytes, `Unbuilt` where it
-    /// has a token of what is not built (the keyword `loop` or `real`), `Syntax` and `Limit` of the nesting at the first wrong token or group
+    /// has a token of what is not built (the keyword `real`), `Syntax` and `Limit` of the nesting at the first wrong token or group
     /// too many, `Name` at the first wrong name, and `Limit` for the first limit that its statement passes. `Memory` may come besides.
     pub fn next<S: Source>(
         &mut self,

@@ -304,12 +304,12 @@ fn bound_reals_are_not_built(rt: HostRuntime) -> Result<(), Fail> {
 }
 
 #[test]
-fn loops_and_reals_are_not_built(rt: HostRuntime) -> Result<(), Fail> {
+fn reals_are_not_built(rt: HostRuntime) -> Result<(), Fail> {
     let unbuilt = Some(ScriptError::Unbuilt);
     assert_eq!(rt;
         refusal(
             rt.alloc(),
-            b"loop L (x int) when x <= 10 do x := x + 1;",
+            b"loop L (x real) when x <= 10 do x := x + 1;",
             &[]
         )?,
         unbuilt

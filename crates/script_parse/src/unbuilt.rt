@@ -1,4 +1,4 @@
-//! The tokens of what is not built yet: loops, and real variables, declared or bound.
+//! The tokens of what is not built yet: real variables, declared or bound.
 
 ghost use Rattle.std.specs.Prelude.{◌≡◌, map};
 ghost use Rattle.script_tokens.specs.Shape.{placed_of, token_of};
@@ -10,7 +10,7 @@ fn is_unbuilt(token: Token<'_>) -> bool
     ensures { result ≡ is_unbuilt_token (token_of token.entry) }
 {
     match token {
-        Token::Sign(kind) => kind == Kind::Loop || kind == Kind::Real,
+        Token::Sign(kind) => kind == Kind::Real,
         _ => false,
     }
 }

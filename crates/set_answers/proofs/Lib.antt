@@ -12,3 +12,4 @@ pub mod LineParts
 pub mod Truth
 pub mod Sending
 pub mod Finding
+pub mod CommonVectors

@@ -9,6 +9,8 @@ ghost use Rattle.lash_model.specs.Tables.{Table, IsTable};
 ghost use Rattle.lash_model.specs.Text.{text_of};
 ghost use Rattle.set_answers.specs.Agreement.{Agree, IsEmptySet, IsCanonicalOf};
 ghost use Rattle.set_answers.specs.Solving.{IsFixedSolution, IsSolved};
+ghost use Rattle.set_answers.specs.Vectors.{ArePositive, HasVector};
+ghost use Rattle.fraction_codes.specs.declared.ratio.Ratio.{Ratio};
 
 /// Of a set of integers `empty` is written exactly where nothing solves it. In every other case the vector of the fixed solution
 /// solves it.
@@ -26,4 +28,9 @@ pub fn answers_are_unique()
 pub fn texts_are_equal_where_sets_agree()
     ensures equal { (base : ℕ) (vars : List (List ℕ × Sort)) (f g : Formula) (t u : Table) → IsCanonicalOf base (length vars) f t → IsCanonicalOf base (length vars) g u → Agree (all_int (length vars)) f g → text_of vars t ≡ text_of vars u }
     ensures agree { (base : ℕ) (vars : List (List ℕ × Sort)) (f g : Formula) (t u : Table) → IsCanonicalOf base (length vars) f t → IsCanonicalOf base (length vars) g u → text_of vars t ≡ text_of vars u → Agree (all_int (length vars)) f g }
+{}
+
+/// Fractions of positive denominators are numerators over one positive denominator.
+pub fn fractions_have_vectors()
+    ensures { (vs : List Ratio) → ArePositive vs → HasVector vs }
 {}

@@ -1,2 +1,4 @@
 pub mod Shelving
 pub mod Saying
+pub mod Conditions
+pub mod Pairing

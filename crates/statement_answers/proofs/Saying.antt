@@ -24,7 +24,7 @@ use Rattle.statement_answers.specs.Automata.{cells_limit, cells_of, IsAnswer}
 use Rattle.statement_answers.specs.Keeping.{kept_cells_limit, cells_of_all, IsHeld, Library, IsLibrary, sets_kept}
 use Rattle.statement_answers.specs.Pieces.{IsShownAs, IsSolvedAs, IsDecided, IsKeptWith, IsPieceOf, Answered, IsSaid, KeepsSilent, unbuilt_of}
 use Rattle.statement_answers.specs.declared.errors.Unanswered.{Unanswered}
-use Rattle.statement_answers.specs.declared.errors.Unanswered.TheVariants.{Heavy, KeptCells, Fault, Memory}
+use Rattle.statement_answers.specs.declared.errors.Unanswered.TheVariants.{Heavy, NoPower, Closure, KeptCells, Fault, Memory}
 use Rattle.statement_answers.proofs.Shelving.{automata, cells_alike}
 
 -- the one line or the other
@@ -38,6 +38,8 @@ decided kept asked b line other P before after fb fa {U = U} r iff gives said = 
     by : (b' : Bool) → b ≡ b' → (r : Result U Unanswered) → IsSaid (cond b line other) before after fb fa r → Answered kept asked before after fb fa r
     by b' q (Ok u) said = (cond b line other, (gives (cond b line other) (right b refl), said))
     by b' q (Err Heavy) said = absurd said
+    by b' q (Err NoPower) said = absurd said
+    by b' q (Err (Closure which)) said = absurd said
     by b' q (Err KeptCells) said = absurd said
     by b' q (Err Fault) said = (said.0, (cond b line other, (gives (cond b line other) (right b refl), said.1)))
     by b' q (Err Memory) said = absurd said
@@ -72,8 +74,8 @@ unbuilt_silent kept name vars f U TooHeavy h = h refl
 unbuilt_silent kept name vars f U NoMemory h = tt
 
 -- a set that was put, or not
-pub put_silent : (l : Library) (name : List ℕ) (vars : List (List ℕ × Sort)) (f : Formula) (t : Table) {U : Type 0} (r : Result U Unanswered) → IsLibrary l → IsAnswer vars f t → OnOk r (l.cells + cells_of t ≤ kept_cells_limit) → IfErr r (λ e. e ≡ KeptCells → kept_cells_limit < l.cells + cells_of t) → IfErr r (λ e. e ≡ Heavy → ⊥) → IfErr r (λ e. e ≡ Fault → ⊥) → KeepsSilent (sets_kept l) (Set name vars f) r
-put_silent l name vars f t {U = U} r h a within over light quiet = by r within over light quiet
+pub put_silent : (l : Library) (name : List ℕ) (vars : List (List ℕ × Sort)) (f : Formula) (t : Table) {U : Type 0} (r : Result U Unanswered) → IsLibrary l → IsAnswer vars f t → OnOk r (l.cells + cells_of t ≤ kept_cells_limit) → IfErr r (λ e. e ≡ KeptCells → kept_cells_limit < l.cells + cells_of t) → IfErr r (λ e. (e ≡ KeptCells) ⊎ (e ≡ Memory)) → KeepsSilent (sets_kept l) (Set name vars f) r
+put_silent l name vars f t {U = U} r h a within over only = by r within over only
   where
     all : l.cells ≡ cells_of_all (map (λ e. e.1) l.held)
     all = h.count ∙ cells_alike l.held
@@ -87,9 +89,10 @@ put_silent l name vars f t {U = U} r h a within over light quiet = by r within o
       cells = subst (λ n. P (n + cells_of t)) all p;
     }
 
-    by : (r : Result U Unanswered) → OnOk r (l.cells + cells_of t ≤ kept_cells_limit) → IfErr r (λ e. e ≡ KeptCells → kept_cells_limit < l.cells + cells_of t) → IfErr r (λ e. e ≡ Heavy → ⊥) → IfErr r (λ e. e ≡ Fault → ⊥) → KeepsSilent (sets_kept l) (Set name vars f) r
-    by (Ok u) within over light quiet = (refl, with_it (λ n. n ≤ kept_cells_limit) within)
-    by (Err Heavy) within over light quiet = absurd (light refl)
-    by (Err KeptCells) within over light quiet = with_it (λ n. kept_cells_limit < n) (over refl)
-    by (Err Fault) within over light quiet = absurd (quiet refl)
-    by (Err Memory) within over light quiet = tt
+    kept_or_memory : (e : Unanswered) → (e ≡ KeptCells → kept_cells_limit < l.cells + cells_of t) → (e ≡ KeptCells) ⊎ (e ≡ Memory) → KeepsSilent (sets_kept l) (Set name vars f) {U = U} (Err e)
+    kept_or_memory e over (inl q) = subst (λ e. KeepsSilent (sets_kept l) (Set name vars f) {U = U} (Err e)) (sym q) (with_it (λ n. kept_cells_limit < n) (over q))
+    kept_or_memory e over (inr q) = subst (λ e. KeepsSilent (sets_kept l) (Set name vars f) {U = U} (Err e)) (sym q) tt
+
+    by : (r : Result U Unanswered) → OnOk r (l.cells + cells_of t ≤ kept_cells_limit) → IfErr r (λ e. e ≡ KeptCells → kept_cells_limit < l.cells + cells_of t) → IfErr r (λ e. (e ≡ KeptCells) ⊎ (e ≡ Memory)) → KeepsSilent (sets_kept l) (Set name vars f) r
+    by (Ok u) within over only = (refl, with_it (λ n. n ≤ kept_cells_limit) within)
+    by (Err e) within over only = kept_or_memory e over only

@@ -4,7 +4,8 @@ use Rattle.lash_model.specs.Tables.{Table}
 use Rattle.canon_text.specs.declared.header.Header.{Header}
 use Rattle.script_names.specs.Kept.{KeptSet, sets_of}
 use Rattle.script_names.specs.declared.kept.Definition.{Definition}
-use Rattle.statement_meaning.specs.Asking.{Asked, Show, Set, Print, Solve, Test, Equal, Subset, Check}
+use Rattle.statement_meaning.specs.Asking.{Asked, Show, Set, Print, Solve, Test, Equal, Subset, Check, Loop}
+use Rattle.statement_answers.specs.Loops.{pairs_of}
 use Rattle.statement_answers.specs.declared.library.Held.{Held}
 use Rattle.statement_answers.specs.Automata.{IsGiven, IsAnswer, cells_of}
 
@@ -31,7 +32,7 @@ OfKept kept at P = (k : KeptSet) × ((slice_get kept at ≡ Some k) × P k)
 abbrev pub OfTwo : List KeptSet → ℕ → ℕ → (KeptSet → KeptSet → Type 0) → Type 0
 OfTwo kept i j P = OfKept kept i (λ k. OfKept kept j (P k))
 
--- the kept sets behind a statement: only `set` keeps one
+-- the kept sets behind a statement: only `set` and `loop` keep one
 abbrev pub grown : List KeptSet → Asked → List KeptSet
 grown kept (Show vars f) = kept
 grown kept (Set name vars f) = kept ++ record { name = name; vars = vars; formula = f } ∷ []
@@ -41,6 +42,7 @@ grown kept (Test at values) = kept
 grown kept (Equal i j) = kept
 grown kept (Subset i j) = kept
 grown kept (Check f) = kept
+grown kept (Loop name vars body) = kept ++ record { name = name; vars = vars; formula = pairs_of body } ∷ []
 
 -- a kept set with what is held of it: its header and its automaton
 pub record IsHeld (k : KeptSet) (header : Header) (t : Table) : Type 0 where

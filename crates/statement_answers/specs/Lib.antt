@@ -1,3 +1,4 @@
+pub mod Loops
 pub mod Automata
 pub mod Keeping
 pub mod Pieces

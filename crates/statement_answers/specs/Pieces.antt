@@ -19,11 +19,14 @@ use Rattle.set_compile.specs.Steps.{IsRefused}
 use Rattle.set_compile.specs.declared.errors.CompileError.{CompileError}
 use Rattle.set_compile.specs.declared.errors.CompileError.TheVariants.{Heavy as TooHeavy, Memory as NoMemory}
 use Rattle.script_names.specs.Kept.{KeptSet, IsKept, kept_place, sets_limit}
-use Rattle.statement_meaning.specs.Asking.{Asked, Show, Set, Print, Solve, Test, Equal, Subset, Check}
+use Rattle.statement_meaning.specs.Asking.{Asked, Show, Set, Print, Solve, Test, Equal, Subset, Check, Loop}
 use Rattle.statement_answers.specs.Automata.{cells_limit, cells_of, IsGiven, IsAnswer}
 use Rattle.statement_answers.specs.Keeping.{kept_cells_limit, cells_of_all, HaveAutomata, OfKept, OfTwo}
+use Rattle.matrix_powers.specs.Powers.{HasNoPower}
+use Rattle.script_meaning.specs.declared.limits.Which.{Which}
+use Rattle.statement_answers.specs.Loops.{pairs_of, HasPairs, IsClosurePassed, IsFitLoop}
 use Rattle.statement_answers.specs.declared.errors.Unanswered.{Unanswered}
-use Rattle.statement_answers.specs.declared.errors.Unanswered.TheVariants.{Heavy, KeptCells, Fault, Memory}
+use Rattle.statement_answers.specs.declared.errors.Unanswered.TheVariants.{Heavy, NoPower, Closure, KeptCells, Fault, Memory}
 
 -- the text of the set's automaton
 pub record IsShownAs (vars : List (List ℕ × Sort)) (f : Formula) (piece : List ℕ) : Type 0 where
@@ -73,6 +76,7 @@ IsPieceOf kept (Solve at) piece = OfKept kept at (λ k. IsSolvedAs k.vars k.form
 IsPieceOf kept (Test at values) piece = OfKept kept at (λ k. IsTested k values piece)
 IsPieceOf kept (Equal i j) piece = OfTwo kept i j (λ k l. yes_or_no (Agree (sorts_of k.vars) k.formula l.formula) piece)
 IsPieceOf kept (Subset i j) piece = OfTwo kept i j (λ k l. ArePaired k l × yes_or_no (Includes (sorts_of k.vars) k.formula l.formula) piece)
+IsPieceOf kept (Loop name vars body) piece = HasPairs body × ((piece ≡ []) × IsKeptWith kept vars (pairs_of body) (λ n. n ≤ kept_cells_limit))
 IsPieceOf kept (Check f) piece = ((t : Table) × IsAnswer [] f t) × IsDecided (codes "true\n") (codes "false\n") (Solves [] f [] 1) piece
 
 -- a construction has too many cells
@@ -85,6 +89,7 @@ IsHeavyAsked kept (Test at values) = ⊥
 IsHeavyAsked kept (Equal i j) = ⊥
 IsHeavyAsked kept (Subset i j) = OfTwo kept i j AreHeavyPairs
 IsHeavyAsked kept (Check f) = IsRefused 2 0 cells_limit f
+IsHeavyAsked kept (Loop name vars body) = HasPairs body × IsRefused 2 (length vars) cells_limit (pairs_of body)
 
 -- the kept sets would have too many cells with this one
 abbrev pub IsTooMuch : List KeptSet → Asked → Type 0
@@ -96,11 +101,38 @@ IsTooMuch kept (Test at values) = ⊥
 IsTooMuch kept (Equal i j) = ⊥
 IsTooMuch kept (Subset i j) = ⊥
 IsTooMuch kept (Check f) = ⊥
+IsTooMuch kept (Loop name vars body) = HasPairs body × IsKeptWith kept vars (pairs_of body) (λ n. kept_cells_limit < n)
+
+-- no power of the loop's matrix comes again
+abbrev pub IsPowerless : List KeptSet → Asked → Type 0
+IsPowerless kept (Show vars f) = ⊥
+IsPowerless kept (Set name vars f) = ⊥
+IsPowerless kept (Print at) = ⊥
+IsPowerless kept (Solve at) = ⊥
+IsPowerless kept (Test at values) = ⊥
+IsPowerless kept (Equal i j) = ⊥
+IsPowerless kept (Subset i j) = ⊥
+IsPowerless kept (Check f) = ⊥
+IsPowerless kept (Loop name vars body) = HasNoPower body.matrix
+
+-- the closure of the loop passes this limit first
+abbrev pub IsPassedByClosure : Which → List KeptSet → Asked → Type 0
+IsPassedByClosure which kept (Show vars f) = ⊥
+IsPassedByClosure which kept (Set name vars f) = ⊥
+IsPassedByClosure which kept (Print at) = ⊥
+IsPassedByClosure which kept (Solve at) = ⊥
+IsPassedByClosure which kept (Test at values) = ⊥
+IsPassedByClosure which kept (Equal i j) = ⊥
+IsPassedByClosure which kept (Subset i j) = ⊥
+IsPassedByClosure which kept (Check f) = ⊥
+IsPassedByClosure which kept (Loop name vars body) = IsClosurePassed body which
 
 -- what answering a statement left of a sink
 abbrev pub Answered : List KeptSet → Asked → Option (List ℕ) → Option (List ℕ) → ℕ → ℕ → {U : Type 0} → Result U Unanswered → Type 0
 Answered kept asked before after faults_before faults_after (Ok u) = (piece : List ℕ) × (IsPieceOf kept asked piece × Holds before after piece)
 Answered kept asked before after faults_before faults_after (Err Heavy) = IsHeavyAsked kept asked × Holds before after []
+Answered kept asked before after faults_before faults_after (Err NoPower) = IsPowerless kept asked × Holds before after []
+Answered kept asked before after faults_before faults_after (Err (Closure which)) = IsPassedByClosure which kept asked × Holds before after []
 Answered kept asked before after faults_before faults_after (Err KeptCells) = IsTooMuch kept asked × Holds before after []
 Answered kept asked before after faults_before faults_after (Err Fault) = IsFaultCounted faults_before faults_after × ((piece : List ℕ) × (IsPieceOf kept asked piece × HoldsPart before after piece))
 Answered kept asked before after faults_before faults_after (Err Memory) = Holds before after []
@@ -121,11 +153,14 @@ IsFit kept (Test at values) = OfKept kept at (λ k. FitsVariables k values)
 IsFit kept (Equal i j) = OfTwo kept i j (λ k l. length k.vars ≡ length l.vars)
 IsFit kept (Subset i j) = OfTwo kept i j (λ k l. length k.vars ≡ length l.vars)
 IsFit kept (Check f) = IsGiven [] f
+IsFit kept (Loop name vars body) = IsFitLoop kept name vars body
 
 -- the line was put, or a part of it and a fault was counted
 abbrev pub IsSaid : List ℕ → Option (List ℕ) → Option (List ℕ) → ℕ → ℕ → {U : Type 0} → Result U Unanswered → Type 0
 IsSaid line before after faults_before faults_after (Ok u) = Holds before after line
 IsSaid line before after faults_before faults_after (Err Heavy) = ⊥
+IsSaid line before after faults_before faults_after (Err NoPower) = ⊥
+IsSaid line before after faults_before faults_after (Err (Closure which)) = ⊥
 IsSaid line before after faults_before faults_after (Err KeptCells) = ⊥
 IsSaid line before after faults_before faults_after (Err Fault) = IsFaultCounted faults_before faults_after × HoldsPart before after line
 IsSaid line before after faults_before faults_after (Err Memory) = ⊥
@@ -134,6 +169,8 @@ IsSaid line before after faults_before faults_after (Err Memory) = ⊥
 abbrev pub KeepsSilent : List KeptSet → Asked → {U : Type 0} → Result U Unanswered → Type 0
 KeepsSilent kept asked (Ok u) = IsPieceOf kept asked []
 KeepsSilent kept asked (Err Heavy) = IsHeavyAsked kept asked
+KeepsSilent kept asked (Err NoPower) = IsPowerless kept asked
+KeepsSilent kept asked (Err (Closure which)) = IsPassedByClosure which kept asked
 KeepsSilent kept asked (Err KeptCells) = IsTooMuch kept asked
 KeepsSilent kept asked (Err Fault) = ⊥
 KeepsSilent kept asked (Err Memory) = Unit

@@ -11,6 +11,7 @@ ghost use Rattle.statement_answers.specs.Pieces.{Answered, FitsVariables, IsFit,
 use crate::building::{CELLS_LIMIT, automaton, binary};
 use crate::errors::Unanswered;
 use crate::library::{Held, Library};
+use crate::looping::keep_loop;
 use canon_text::{Header, write_text};
 use formula_core::{Formula, Vars};
 use fraction_codes::Ratio;
@@ -73,8 +74,8 @@ fn show<K: Sink>(
     }
 }
 
-// Keeps a set.
-fn keep(
+/// Keeps a set.
+pub(crate) fn keep(
     alloc: Global,
     library: &mut Library,
     name: Name,
@@ -196,7 +197,8 @@ fn check<K: Sink>(alloc: Global, formula: &Formula, out: &mut K) -> Result<(), U
 /// passes no limit, and all its variables are integers.
 ///
 /// # Errors
-/// `Heavy` where a construction has more than 4,194,304 cells, and `KeptCells` where the kept sets would have more than 67,108,864 together;
+/// `NoPower` where no power of a loop's matrix comes again, and `Closure` where its closure passes a limit, the first in the order of the
+/// variant; `Heavy` where a construction has more than 4,194,304 cells, and `KeptCells` where the kept sets would have more than 67,108,864 together;
 /// nothing is written then. `Fault` where the sink counted a fault; a part of the piece is written. `Memory` where memory is wanting, before a
 /// byte of the piece is written.
 pub fn answer<K: Sink>(
@@ -223,5 +225,6 @@ pub fn answer<K: Sink>(
         Statement::Equal { left, right } => compare(library, left, right, out),
         Statement::Subset { left, right } => include(alloc, library, left, right, out),
         Statement::Check { formula } => check(alloc, &formula, out),
+        Statement::Loop { name, vars, body } => keep_loop(alloc, library, name, vars, body),
     }
 }

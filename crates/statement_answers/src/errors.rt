@@ -1,5 +1,6 @@
 //! Why a statement is not answered.
 
+use script_meaning::Which;
 use thiserror::Error;
 
 /// Why a statement is not answered.
@@ -8,6 +9,12 @@ pub enum Unanswered {
     /// A construction has more cells than the limit.
     #[error("a construction has too many cells")]
     Heavy,
+    /// No power of a loop's matrix comes again.
+    #[error("the loop has no power")]
+    NoPower,
+    /// The closure of a loop passes a limit, the first in the order `Nodes`, `Depth`, `Coefficient`, `Constant`, `Letters`.
+    #[error("the closure of the loop passes a limit")]
+    Closure { which: Which },
     /// The kept sets would have more than 67,108,864 cells together.
     #[error("the kept sets have too many cells")]
     KeptCells,

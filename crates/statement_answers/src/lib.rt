@@ -5,6 +5,7 @@ mod answering;
 mod building;
 mod errors;
 mod library;
+mod looping;
 
 pub use answering::answer;
 pub use building::binary;

@@ -1,6 +1,6 @@
 //! The kept sets, each with its header and its automaton. Own.
 
-ghost use Rattle.std.specs.Prelude.{◌≡◌, ◌<◌, ◌≤◌, ◌+◌, ◌++◌, ◌∷◌, [], All, length, IfErr, OnOk, OnErr, None, Some, slice_get};
+ghost use Rattle.std.specs.Prelude.{◌≡◌, ◌⊎◌, ◌<◌, ◌≤◌, ◌+◌, ◌++◌, ◌∷◌, [], All, length, IfErr, OnOk, OnErr, None, Some, slice_get};
 ghost use Rattle.formula_core.specs.Shape.{formula_of};
 ghost use Rattle.script_names.specs.Kept.{IsKept, KeptSet, kept_place, sets_limit};
 ghost use Rattle.statement_answers.specs.Automata.{IsGiven, cells_of};
@@ -101,8 +101,7 @@ impl Library {
         ensures kept { OnOk result (sets_kept self.new ≡ sets_kept self.old ++ record { name = name; vars = vars; formula = formula_of formula } ∷ []) }
         ensures within { OnOk result (self.old.cells + cells_of held.canon.table ≤ kept_cells_limit) }
         ensures over { IfErr result (λ e. e ≡ Unanswered.KeptCells → kept_cells_limit < self.old.cells + cells_of held.canon.table) }
-        ensures light { IfErr result (λ e. e ≡ Unanswered.Heavy → ⊥) }
-        ensures quiet { IfErr result (λ e. e ≡ Unanswered.Fault → ⊥) }
+        ensures only { IfErr result (λ e. (e ≡ Unanswered.KeptCells) ⊎ (e ≡ Unanswered.Memory)) }
     {
         let cells = self.cells + table_cells(held.canon.table());
         if cells > KEPT_CELLS_LIMIT {

@@ -43,7 +43,7 @@ one_limit base kept (Test name vs) v w h k = one_of_test vs v w h k
 one_limit base kept (Equal a b) v w h k = absurd h
 one_limit base kept (Subset a b) v w h k = absurd h
 one_limit base kept (Check f) v w h k = one_passed false base 0 f (core kept [] f) v w h k
-one_limit base kept (Loop name vars turn) v w h k = absurd h
+one_limit base kept (Loop name vars turn) v w h k = same_some v w (sym h ∙ k)
 
 -- and none that is within the limits passes one
 within_all : (base : ℕ) (kept : List KeptSet) (shape : StatementShape) (w : Which) → IsStatementWithin base kept shape → IsStatementPassed base kept shape w → ⊥
@@ -55,7 +55,7 @@ within_all base kept (Test name vs) w h k = test_within vs w h.0 h.1 k
 within_all base kept (Equal a b) w h k = k
 within_all base kept (Subset a b) w h k = k
 within_all base kept (Check f) w h k = within_or_passed false base 0 f (core kept [] f) w h k
-within_all base kept (Loop name vars turn) w h k = k
+within_all base kept (Loop name vars turn) w h k = not_none w (sym h ∙ k)
 
 -- why a statement is refused
 abbrev Cause : ℕ → List KeptSet → StatementShape → Refusal → Type 0

@@ -8,6 +8,9 @@ use Rattle.script_statements.specs.Statements.{ComprehensionShape, StatementShap
 use Rattle.script_names.specs.Kept.{KeptSet, kept_place}
 use Rattle.script_names.specs.Scopes.{with_declared}
 use Rattle.script_meaning.specs.Core.{core}
+use Rattle.loop_laws.specs.Turns.{Body}
+use Rattle.loop_closure.specs.Bodies.{body_of}
+use Rattle.loop_meaning.specs.Looping.{loop_body, loop_variables}
 use Rattle.statement_meaning.specs.Values.{ratio_of}
 use Rattle.statement_meaning.specs.declared.statement.Statement.{Statement as DeclaredStatement}
 use Rattle.statement_meaning.specs.declared.statement.Statement.TheVariants as declared
@@ -21,6 +24,7 @@ pub data Asked : Type 0 where
   Equal : ℕ → ℕ → Asked
   Subset : ℕ → ℕ → Asked
   Check : Formula → Asked
+  Loop : List ℕ → List (List ℕ × Sort) → Body → Asked
 
 -- the variables of a set
 abbrev pub vars_of : ComprehensionShape → List (List ℕ × Sort)
@@ -36,7 +40,7 @@ of_both f None right = None
 of_both f (Some left) None = None
 of_both f (Some left) (Some right) = Some (f left right)
 
--- what a statement asks; None where it names no kept set. What loops ask is not built yet
+-- what a statement asks; None where it names no kept set
 abbrev pub asked : List KeptSet → StatementShape → Option Asked
 asked kept (ShowShape set) = Some (Show (vars_of set) (core_of kept set))
 asked kept (SetShape name set) = Some (Set name.left (vars_of set) (core_of kept set))
@@ -46,7 +50,7 @@ asked kept (TestShape name vs) = option_map (λ at. Test at (map ratio_of vs)) (
 asked kept (EqualShape a b) = of_both Equal (kept_place kept a.left) (kept_place kept b.left)
 asked kept (SubsetShape a b) = of_both Subset (kept_place kept a.left) (kept_place kept b.left)
 asked kept (CheckShape f) = Some (Check (core kept [] f))
-asked kept (LoopShape name vars turn) = None
+asked kept (LoopShape name vars turn) = Some (Loop name.left (loop_variables vars) (loop_body kept vars turn))
 
 -- the same of the program's statements
 abbrev pub asked_of : DeclaredStatement → Asked
@@ -58,3 +62,4 @@ asked_of (declared.Test at values) = Test at values
 asked_of (declared.Equal left right) = Equal left right
 asked_of (declared.Subset left right) = Subset left right
 asked_of (declared.Check f) = Check (formula_of f)
+asked_of (declared.Loop name vars body) = Loop name vars (body_of body)

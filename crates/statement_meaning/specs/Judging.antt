@@ -18,6 +18,7 @@ use Rattle.script_meaning.specs.declared.limits.Which.{Which}
 use Rattle.script_meaning.specs.declared.limits.Which.TheVariants.{Literal, Denominator}
 use Rattle.script_meaning.specs.declared.resolving.Refusal.{Refusal}
 use Rattle.script_meaning.specs.declared.resolving.Refusal.TheVariants.{Fault, Limit, Memory}
+use Rattle.loop_meaning.specs.Looping.{loop_fault, loop_passed, IsLoopReadable}
 use Rattle.statement_meaning.specs.Values.{ratio_of, values_pass, IsQuotient}
 use Rattle.statement_meaning.specs.Asking.{core_of, asked, asked_of}
 use Rattle.statement_meaning.specs.declared.statement.Statement.{Statement as DeclaredStatement}
@@ -59,7 +60,7 @@ statement_fault kept (Test name vs) = tested_fault name (kept_set kept name.left
 statement_fault kept (Equal a b) = compared_fault kept a b
 statement_fault kept (Subset a b) = compared_fault kept a b
 statement_fault kept (Check f) = set_fault kept [] f
-statement_fault kept (Loop name vars turn) = None
+statement_fault kept (Loop name vars turn) = or_else (repeated name (kept_place kept name.left)) (loop_fault kept vars turn)
 
 -- one more set would be too many
 abbrev pub is_full : List KeptSet → Bool
@@ -79,7 +80,7 @@ IsStatementWithin base kept (Test name vs) = (values_pass vs ≡ false) × AreCo
 IsStatementWithin base kept (Equal a b) = Unit
 IsStatementWithin base kept (Subset a b) = Unit
 IsStatementWithin base kept (Check f) = IsWithin false base 0 f (core kept [] f)
-IsStatementWithin base kept (Loop name vars turn) = ⊥
+IsStatementWithin base kept (Loop name vars turn) = loop_passed (is_full kept) kept vars turn ≡ None
 
 -- a literal of a test comes before the denominator
 abbrev pub IsTestPassed : List RationalShape → Which → Type 0
@@ -95,7 +96,7 @@ IsStatementPassed base kept (Test name vs) which = IsTestPassed vs which
 IsStatementPassed base kept (Equal a b) which = ⊥
 IsStatementPassed base kept (Subset a b) which = ⊥
 IsStatementPassed base kept (Check f) which = IsFirstPassed false base 0 f (core kept [] f) which
-IsStatementPassed base kept (Loop name vars turn) which = ⊥
+IsStatementPassed base kept (Loop name vars turn) which = loop_passed (is_full kept) kept vars turn ≡ Some which
 
 -- the names of the statement are right and it passes no limit; this is what it asks
 pub record IsJudged (base : ℕ) (kept : List KeptSet) (shape : StatementShape) (s : DeclaredStatement) : Type 0 where
@@ -123,7 +124,7 @@ pub record IsReadable (set : ComprehensionShape) : Type 0 where
   pub named : All (λ d. IsVariableName d.name.left) set.vars
   pub size : length set.vars + size_of set.formula ≤ terms_limit
 
--- what a statement that was read is like; loops are not built yet
+-- what a statement that was read is like
 abbrev pub IsStatementReadable : StatementShape → Type 0
 IsStatementReadable (Show set) = IsReadable set
 IsStatementReadable (Set name set) = IsReadable set
@@ -133,4 +134,4 @@ IsStatementReadable (Test name vs) = All IsQuotient vs
 IsStatementReadable (Equal a b) = Unit {0}
 IsStatementReadable (Subset a b) = Unit {0}
 IsStatementReadable (Check f) = size_of f ≤ terms_limit
-IsStatementReadable (Loop name vars turn) = ⊥
+IsStatementReadable (Loop name vars turn) = IsLoopReadable vars turn

@@ -5,6 +5,7 @@ ghost use Rattle.script_statements.specs.Statements.{statement_of};
 ghost use Rattle.statement_meaning.specs.Judging.{IsJudgement, IsStatementReadable};
 
 use crate::finding::{kept_at, kept_pair};
+use crate::loops::loop_to_keep;
 use crate::sets::{checked, set_to_keep, shown};
 use crate::statement::Statement;
 use crate::vectors::tested;
@@ -14,14 +15,15 @@ use script_names::Defs;
 use script_statements::Statement as Tree;
 use std::alloc::Global;
 
-/// What a statement asks, where these sets are kept. Conditions: declared names are variables' names, there are at most 65,536 declarations
-/// and parts of terms together, the denominators of values are positive, and the statement is no loop.
+/// What a statement asks, where these sets are kept. Conditions: declared names are variables' names, those of loops have no quote mark, a loop
+/// declares at least one variable, there are at most 65,536 declarations and parts of terms together, and the denominators of values are
+/// positive.
 ///
 /// # Errors
 /// `Fault` at the first wrong name from left to right: a set that is asked for and not kept, the name of a set that is kept already, a test
-/// whose values are not as many as the set's variables, two sets of different sorts, or a wrong name of a formula. `Limit`, where all names
+/// whose values are not as many as the set's variables, two sets of different sorts, or a wrong name of a formula or of a loop. `Limit`, where all names
 /// are right, with the first limit in the order of `Which` that is passed: `Sets` where 1,024 sets are kept and another is to be,
-/// `Denominator` where the least common denominator of a test's values passes 65,536, or one of a formula. `Memory` where memory is wanting.
+/// `Denominator` where the least common denominator of a test's values passes 65,536, or one of a formula or of a loop. `Memory` where memory is wanting.
 pub fn judge(
     alloc: Global,
     base: Base,
@@ -52,6 +54,6 @@ pub fn judge(
             Err(fault) => Err(Refusal::Fault(fault)),
         },
         Tree::Check(formula) => checked(alloc, base, defs, formula),
-        Tree::Loop(_) => unreachable!(),
+        Tree::Loop(turns) => loop_to_keep(alloc, defs, turns),
     }
 }

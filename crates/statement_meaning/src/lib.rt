@@ -5,6 +5,7 @@
 mod finding;
 mod judging;
 mod laws;
+mod loops;
 mod sets;
 mod statement;
 mod vectors;

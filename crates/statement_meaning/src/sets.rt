@@ -15,8 +15,8 @@ use script_statements::Comprehension;
 use script_syntax::{NameAt, Tree};
 use std::alloc::Global;
 
-// The greatest number of kept sets.
-const SETS_LIMIT: u32 = 1024;
+/// The greatest number of kept sets.
+pub const SETS_LIMIT: u32 = 1024;
 
 /// Judges a set that is to be shown.
 pub fn shown(

@@ -4,6 +4,7 @@ ghost use Rattle.std.specs.Prelude.{◌≡◌};
 
 use formula_core::{Formula, Vars};
 use fraction_codes::Ratio;
+use loop_closure::LoopBody;
 use script_names::Name;
 use std::marker::Model;
 
@@ -30,6 +31,7 @@ impl Values {
         Values { ratios }
     }
 
+    /// The fractions, in the order of the variables. Each denominator is positive, and no part passes 2^64.
     pub fn ratios(&self) -> &[Ratio]
         ensures { result.now ≡ self.now }
     {
@@ -51,23 +53,25 @@ pub enum Statement {
         vars: Vars,
         formula: Formula,
     },
+    /// Show the kept set.
     Print {
         at: u32,
     },
+    /// Tell a solution of the kept set, or that there is none.
     Solve {
         at: u32,
     },
-    /// Whether the values are in the set.
+    /// Whether the values are in the kept set.
     Test {
         at: u32,
         values: Values,
     },
-    /// Whether the two sets have the same solutions. They have the same list of sorts.
+    /// Whether the two kept sets have the same solutions. They have the same list of sorts.
     Equal {
         left: u32,
         right: u32,
     },
-    /// Whether each solution of the first set is one of the second. They have the same list of sorts.
+    /// Whether each solution of the first kept set is one of the second. They have the same list of sorts.
     Subset {
         left: u32,
         right: u32,
@@ -75,5 +79,12 @@ pub enum Statement {
     /// Whether the formula, which has no free variables, holds.
     Check {
         formula: Formula,
+    },
+    /// Keep the pairs of vectors that turns of the loop join, by this name, which is new. The variables are those before the turns, and behind
+    /// them those after the turns; the body is over the first half.
+    Loop {
+        name: Name,
+        vars: Vars,
+        body: LoopBody,
     },
 }

@@ -1,8 +1,7 @@
 //! Judging tests of vectors: the values, and their least common denominator.
 
-ghost use Rattle.std.specs.Prelude.{◌≡◌, ℕ, ◌≤◌, ◌<◌, ◌^◌, All, IfOk, false, map, unsigned_abs};
+ghost use Rattle.std.specs.Prelude.{◌≡◌, ℕ, ◌≤◌, ◌<◌, ◌^◌, All, IfOk, false, map};
 ghost use Rattle.fraction_codes.specs.Fractions.{IsSmall};
-ghost use Rattle.script_meaning.specs.Core.{signed};
 ghost use Rattle.script_names.specs.Kept.{sets_of};
 ghost use Rattle.script_syntax.specs.Trees.{named_of};
 ghost use Rattle.script_statements.specs.Statements.{Test};
@@ -15,7 +14,7 @@ use crate::finding::kept_with;
 use crate::statement::{Statement, Values};
 use fraction_codes::{Ratio, common_denominator};
 use lash_io::Memory;
-use script_meaning::{Refusal, Which};
+use script_meaning::{Refusal, Which, with_sign};
 use script_names::Defs;
 use script_statements::Rational;
 use script_syntax::NameAt;
@@ -34,19 +33,6 @@ fn has_great_value(values: &[Rational]) -> bool
         }
     }
     false
-}
-
-// A number with its sign.
-fn with_sign(minus: bool, number: u128) -> i128
-    requires { number ≤ 2 ^ 64 }
-    ensures value { result ≡ signed minus number }
-    ensures small { unsigned_abs result ≤ 2 ^ 64 }
-{
-    if minus {
-        -(number as i128)
-    } else {
-        number as i128
-    }
 }
 
 // A value as a fraction.

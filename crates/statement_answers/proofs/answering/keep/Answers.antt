@@ -11,4 +11,4 @@ pub returns-in-Err-clause-answered : goal.returns-in-Err-clause-answered
 returns-in-Err-clause-answered c = rw c.unbuilt.ensures (unbuilt_silent (sets_kept c.args.library.now) c.args.name c.args.vars (formula_of c.args.formula) Unit c.in-Err.error c.in-Err.ensures.heavy)
 
 pub returns-clause-answered : goal.returns-clause-answered
-returns-clause-answered c = put_silent c.args.library.now c.args.name c.args.vars (formula_of c.args.formula) c.in-Ok.canon.table c.put.result c.put.ensures.library c.in-Ok.ensures.answer c.put.ensures.within c.put.ensures.over c.put.ensures.light c.put.ensures.quiet
+returns-clause-answered c = put_silent c.args.library.now c.args.name c.args.vars (formula_of c.args.formula) c.in-Ok.canon.table c.put.result c.put.ensures.library c.in-Ok.ensures.answer c.put.ensures.within c.put.ensures.over c.put.ensures.only

@@ -8,3 +8,6 @@ use Rattle.statement_meaning.proofs.judging.judge.Goals as goal
 
 pub returns-in-Test : goal.returns-in-Test
 returns-in-Test c = subst (λ s. IsJudgement c.args.base (sets_of c.args.defs.now) s c.tested.result) (ap (λ xs. Test (named_of c.in-Test.name) (map rational_of xs)) c.deref.ensures.value ∙ sym (ap statement_of c.in-Test.is)) (c.tested.ensures c.args.base)
+
+pub returns-in-Loop : goal.returns-in-Loop
+returns-in-Loop c = subst (λ s. IsJudgement c.args.base (sets_of c.args.defs.now) s c.loop_to_keep.result) (sym (ap statement_of c.in-Loop.is)) (c.loop_to_keep.ensures c.args.base)

@@ -1,0 +1,119 @@
+-- A loop that was read is one that is kept: its body is inside the limits, and its variables are integers.
+use Rattle.std.proofs.Common.{◌≡◌, ℕ, zero, suc, ◌+◌, ◌≤◌, ◌<◌, ◌^◌, List, [], ◌∷◌, ◌++◌, length, map, arith, refl, sym, ap, ◌∙◌, subst, Bool, true, false, cond, nat_lt, Option, None, Some}
+use Rattle.std.specs.List.{All, AllByRecursion}
+use Rattle.std.specs.Prelude.{ℤ, unsigned_abs}
+use Rattle.std.proofs.lemmas.Bool.{ltb-false}
+use Rattle.std.proofs.lemmas.List.{length-append, length-map}
+use Rattle.std.proofs.lemmas.List.Elements.{All-from_recursion}
+use Rattle.parser_laws.proofs.Parts.{not_none}
+use Rattle.integer_laws.specs.Vectors.{vector_from}
+use Rattle.integer_laws.proofs.Entries.{length-vector_from}
+use Rattle.lash_model.specs.Formulas.{Sort, Int, Formula}
+use Rattle.lash_model.specs.Standing.{all_int}
+use Rattle.formula_core.specs.Variables.{sorts_of}
+use Rattle.script_grammar.specs.Statements.{Bound, AtMost, Below, AtLeast, Above, Equal}
+use Rattle.script_syntax.specs.Trees.{Named, SignedShape, DeclarationShape, TreeShape, And}
+use Rattle.script_statements.specs.Loops.{ConstraintShape, AssignmentShape}
+use Rattle.script_statements.specs.Statements.{TurnShape}
+use Rattle.script_names.specs.Kept.{KeptSet, kept_place, sets_limit}
+use Rattle.script_names.specs.Scopes.{Scope, place_of}
+use Rattle.script_names.specs.Faults.{or_else}
+use Rattle.script_meaning.specs.Core.{core, compared, constant_of}
+use Rattle.script_meaning.specs.Resolving.{first_passed}
+use Rattle.script_meaning.specs.declared.limits.Which.{Which}
+use Rattle.script_meaning.specs.declared.limits.Which.TheVariants.{Literal, LoopVariables, Constant}
+use Rattle.script_parse.specs.Plain.{IsInt}
+use Rattle.matrix_powers.specs.Orbits.{IsShift}
+use Rattle.loop_laws.specs.Turns.{IsMember, IsGuard}
+use Rattle.loop_closure.specs.Closing.{IsBody}
+use Rattle.loop_meaning.specs.Guards.{relation_of_bound, constraint_tree, joined_guard, guard_tree}
+use Rattle.loop_meaning.specs.Assigning.{is_place, assigned_to, becomes, next_term, next_shift, shift_passes}
+use Rattle.loop_meaning.specs.Looping.{scope_of, guard_of, loop_literal, loop_variables_limit, loop_passed, shift_limit, loop_body, primed, loop_variables}
+use Rattle.statement_meaning.specs.Judging.{is_full}
+use Rattle.statement_answers.specs.Loops.{IsFitLoop}
+use Rattle.statement_answers.proofs.Conditions.{substituted_over, passed_over}
+use Rattle.lash_command.proofs.GivenSets.{left_false, right_false, AreFine, core_within, none_passed, variables_int}
+
+-- a comparison of a guard is none of unequal values
+compared_member : (scope : Scope) (a : List SignedShape) (r : Bound) (b : List SignedShape) → IsMember (compared scope a (relation_of_bound r) b) × IsGuard (compared scope a (relation_of_bound r) b)
+compared_member scope a AtMost b = (tt, tt)
+compared_member scope a Below b = (tt, tt)
+compared_member scope a AtLeast b = (tt, tt)
+compared_member scope a Above b = (tt, tt)
+compared_member scope a Equal b = (tt, tt)
+
+joined_is_guard : (kept : List KeptSet) (scope : Scope) (f : TreeShape) (cs : List ConstraintShape) → IsGuard (core kept scope f) → IsGuard (core kept scope (joined_guard f cs))
+joined_is_guard kept scope f [] h = h
+joined_is_guard kept scope f (c ∷ cs) h = joined_is_guard kept scope (And f (constraint_tree c)) cs (h, (compared_member scope c.left c.bound c.right).0)
+
+guard_is_guard : (kept : List KeptSet) (scope : Scope) (cs : List ConstraintShape) → IsGuard (core kept scope (guard_tree cs))
+guard_is_guard kept scope [] = tt
+guard_is_guard kept scope (c ∷ cs) = joined_is_guard kept scope (constraint_tree c) cs (compared_member scope c.left c.bound c.right).1
+
+-- the constants of what variables become are small
+small_next : (scope : Scope) (xs : List AssignmentShape) (row : ℕ) → shift_passes xs ≡ false → unsigned_abs (next_term scope xs row).constant ≤ 2 ^ 40
+small_next scope [] row e = omega arith
+small_next scope (a ∷ xs) row e = by (small_next scope xs row (right_false (nat_lt (2 ^ 40) (unsigned_abs (constant_of a.term))) (shift_passes xs) e)) (is_place row (place_of scope a.name.left))
+  where
+    by : unsigned_abs (next_term scope xs row).constant ≤ 2 ^ 40 → (b : Bool) → unsigned_abs (becomes scope row (cond b (Some a.term) (assigned_to scope xs row))).constant ≤ 2 ^ 40
+    by rest true = ltb-false (2 ^ 40) (unsigned_abs (constant_of a.term)) (left_false _ (shift_passes xs) e)
+    by rest false = rest
+
+all_vector : (P : ℤ → Type 0) (f : ℕ → ℤ) (i n : ℕ) → ((j : ℕ) → P (f j)) → AllByRecursion P (vector_from f i n)
+unfolding vector_from
+all_vector P f i zero h = tt
+all_vector P f i (suc n) h = (h i, all_vector P f (suc i) n h)
+
+shift_is_small : (scope : Scope) (xs : List AssignmentShape) → shift_passes xs ≡ false → IsShift (length scope) (next_shift scope xs)
+shift_is_small scope xs e = record {
+  whole = length-vector_from (λ row. (next_term scope xs row).constant) 0 (length scope);
+  small = All-from_recursion (λ b. unsigned_abs b ≤ 2 ^ 40) (next_shift scope xs) (all_vector (λ b. unsigned_abs b ≤ 2 ^ 40) (λ row. (next_term scope xs row).constant) 0 (length scope) (λ row. small_next scope xs row e));
+}
+
+-- variables that are integers
+abbrev AreIntegers : List (List ℕ × Sort) → Type 0
+AreIntegers vs = AllByRecursion (λ v. v.1 ≡ Int) vs
+
+primed_integers : (vs : List (List ℕ × Sort)) → AreIntegers vs → AreIntegers (map primed vs)
+primed_integers [] h = tt
+primed_integers (v ∷ vs) h = (h.0, primed_integers vs h.1)
+
+both_integers : (vs ws : List (List ℕ × Sort)) → AreIntegers vs → AreIntegers ws → AreIntegers (vs ++ ws)
+both_integers [] ws h i = i
+both_integers (v ∷ vs) ws h i = (h.0, both_integers vs ws h.1 i)
+
+integer_sorts : (vs : List (List ℕ × Sort)) → AreIntegers vs → sorts_of vs ≡ all_int (length vs)
+integer_sorts [] h = refl
+integer_sorts (v ∷ vs) h = ap (λ s. s ∷ sorts_of vs) h.0 ∙ ap (λ ss. Int ∷ ss) (integer_sorts vs h.1)
+
+-- no limit of two is passed
+first_none : (x y : Option Which) → or_else x y ≡ None → x ≡ None
+first_none None y e = refl
+first_none (Some w) y e = absurd (not_none w (sym e))
+
+second_none : (x y : Option Which) → or_else x y ≡ None → y ≡ None
+second_none None y e = e
+second_none (Some w) y e = absurd (not_none w (sym e))
+
+-- a loop whose names are right and that passes no limit
+pub loop_fits : (kept : List KeptSet) → AreFine kept → (is_full kept ≡ false → length kept < sets_limit) → (name : Named) (vars : List DeclarationShape) (t : TurnShape) → AllByRecursion IsInt vars → kept_place kept name.left ≡ None → loop_passed (is_full kept) kept vars t ≡ None → IsFitLoop kept name.left (loop_variables vars) (loop_body kept vars t)
+loop_fits kept fine has_room name vars t plain fresh within =
+    let literals = passed_over (loop_literal t) Literal _ within in
+    let few = passed_over (nat_lt loop_variables_limit (length vars)) LoopVariables _ literals.rest in
+    let limits = none_passed (is_full kept) (guard_tree t.guard) (guard_of kept vars t) (first_none (first_passed (is_full kept) (guard_tree t.guard) (guard_of kept vars t)) (shift_limit t) few.rest) in
+    let shift = passed_over (shift_passes t.assignments) Constant None (second_none (first_passed (is_full kept) (guard_tree t.guard) (guard_of kept vars t)) (shift_limit t) few.rest) in
+    let integers = both_integers (scope_of vars) (map primed (scope_of vars)) (variables_int vars plain) (primed_integers (scope_of vars) (variables_int vars plain)) in
+    record {
+      inside = record {
+        guard = guard_is_guard kept (scope_of vars) t.guard;
+        over = substituted_over (length (scope_of vars)) (guard_of kept vars t) (core_within kept fine (scope_of vars) (guard_tree t.guard) limits.atoms);
+        nodes = limits.nodes;
+        depth = limits.depth;
+        shift = shift_is_small (scope_of vars) t.assignments shift.test;
+      };
+      count = length-append (scope_of vars) (map primed (scope_of vars)) ∙ ap (λ n. length (scope_of vars) + n) (length-map (scope_of vars) primed);
+      integers = All-from_recursion (λ v. v.1 ≡ Int) (loop_variables vars) integers;
+      sorts = integer_sorts (loop_variables vars) integers;
+      fresh = fresh;
+      room = has_room limits.room;
+    }

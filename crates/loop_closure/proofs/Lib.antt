@@ -1,0 +1,10 @@
+pub mod Gathering
+pub mod NodeCounts
+pub mod Placing
+pub mod Coefficients
+pub mod Joining
+pub mod FillingRows
+pub mod ListingTerms
+pub mod Branching
+pub mod Closed
+pub mod Excluding

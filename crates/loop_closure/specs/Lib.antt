@@ -1,0 +1,10 @@
+pub mod Refusing
+pub mod Filling
+pub mod Builders
+pub mod Joins
+pub mod Bodies
+pub mod Counting
+pub mod Closing
+pub use Rattle.loop_laws.specs.Turns
+pub use Rattle.loop_laws.specs.Closures
+pub use Rattle.matrix_powers.specs.Powers

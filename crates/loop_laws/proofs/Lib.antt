@@ -1,0 +1,11 @@
+pub mod Sums
+pub mod Iterating
+pub mod Repeating
+pub mod Convex
+pub mod Allowing
+pub mod Joining
+pub mod TermVectors
+pub mod Parts
+pub mod Shorts
+pub mod Longs
+pub mod Closing
