@@ -197,6 +197,7 @@ fn seen(statement: &Statement) -> (u8, u32, u32) {
         Statement::Equal { left, right } => (5, *left, *right),
         Statement::Subset { left, right } => (6, *left, *right),
         Statement::Check { .. } => (7, 0, 0),
+        Statement::Loop { .. } => (8, 0, 0),
     }
 }
 
