@@ -1,7 +1,7 @@
 -- A loop that was read is one that is kept: its body is inside the limits, and its variables are integers.
 use Rattle.std.proofs.Common.{◌≡◌, ℕ, zero, suc, ◌+◌, ◌≤◌, ◌<◌, ◌^◌, List, [], ◌∷◌, ◌++◌, length, map, arith, refl, sym, ap, ◌∙◌, subst, Bool, true, false, cond, nat_lt, Option, None, Some}
 use Rattle.std.specs.List.{All, AllByRecursion}
-use Rattle.std.specs.Prelude.{ℤ, unsigned_abs}
+use Rattle.std.specs.Prelude.{◌↔◌, ℤ, unsigned_abs}
 use Rattle.std.proofs.lemmas.Bool.{ltb-false}
 use Rattle.std.proofs.lemmas.List.{length-append, length-map}
 use Rattle.std.proofs.lemmas.List.Elements.{All-from_recursion}
@@ -9,6 +9,7 @@ use Rattle.parser_laws.proofs.Parts.{not_none}
 use Rattle.integer_laws.specs.Vectors.{vector_from}
 use Rattle.integer_laws.proofs.Entries.{length-vector_from}
 use Rattle.lash_model.specs.Formulas.{Sort, Int, Formula}
+use Rattle.lash_model.specs.Meaning.{holds}
 use Rattle.lash_model.specs.Standing.{all_int}
 use Rattle.formula_core.specs.Variables.{sorts_of}
 use Rattle.script_grammar.specs.Statements.{Bound, AtMost, Below, AtLeast, Above, Equal}
@@ -16,7 +17,7 @@ use Rattle.script_syntax.specs.Trees.{Named, SignedShape, DeclarationShape, Tree
 use Rattle.script_statements.specs.Loops.{ConstraintShape, AssignmentShape}
 use Rattle.script_statements.specs.Statements.{TurnShape}
 use Rattle.script_names.specs.Kept.{KeptSet, kept_place, sets_limit}
-use Rattle.script_names.specs.Scopes.{Scope, place_of}
+use Rattle.script_names.specs.Scopes.{Scope, place_of, variable_of}
 use Rattle.script_names.specs.Faults.{or_else}
 use Rattle.script_meaning.specs.Core.{core, compared, constant_of}
 use Rattle.script_meaning.specs.Resolving.{first_passed}
@@ -24,13 +25,15 @@ use Rattle.script_meaning.specs.declared.limits.Which.{Which}
 use Rattle.script_meaning.specs.declared.limits.Which.TheVariants.{Literal, LoopVariables, Constant}
 use Rattle.script_parse.specs.Plain.{IsInt}
 use Rattle.matrix_powers.specs.Orbits.{IsShift}
-use Rattle.loop_laws.specs.Turns.{IsMember, IsGuard}
+use Rattle.matrix_powers.specs.Powers.{IsPower}
+use Rattle.loop_laws.specs.Turns.{Body, IsMember, IsGuard, after}
+use Rattle.loop_laws.specs.Closures.{closure_of}
 use Rattle.loop_closure.specs.Closing.{IsBody}
 use Rattle.loop_meaning.specs.Guards.{relation_of_bound, constraint_tree, joined_guard, guard_tree}
 use Rattle.loop_meaning.specs.Assigning.{is_place, assigned_to, becomes, next_term, next_shift, shift_passes}
 use Rattle.loop_meaning.specs.Looping.{scope_of, guard_of, loop_literal, loop_variables_limit, loop_passed, shift_limit, loop_body, primed, loop_variables}
 use Rattle.statement_meaning.specs.Judging.{is_full}
-use Rattle.statement_answers.specs.Loops.{IsFitLoop}
+use Rattle.statement_answers.specs.Loops.{HasPairs, IsFitLoop, pairs_of}
 use Rattle.statement_answers.proofs.Conditions.{substituted_over, passed_over}
 use Rattle.lash_command.proofs.GivenSets.{left_false, right_false, AreFine, core_within, none_passed, variables_int}
 
@@ -117,3 +120,14 @@ loop_fits kept fine has_room name vars t plain fresh within =
       fresh = fresh;
       room = has_room limits.room;
     }
+
+-- what closures mean, as a law of loops has it
+abbrev ClosuresJoinTurns : Type 0
+ClosuresJoinTurns = (l : Body) (p : ℕ) (x y : List ℤ) (d : ℕ) → 0 < p → IsPower l.matrix p → IsGuard l.guard → length x ≡ l.matrix.side → length y ≡ l.matrix.side → 0 < d → holds (closure_of false l p) (x ++ y) d ↔ ((k : ℕ) × after l d k x y)
+
+-- a kept loop is its turns
+pub kept_turns : ClosuresJoinTurns → (kept : List KeptSet) (vars : List DeclarationShape) (t : TurnShape) (x y : List ℤ) (d : ℕ) → HasPairs (loop_body kept vars t) → length x ≡ length vars → length y ≡ length vars → 0 < d → holds (pairs_of (loop_body kept vars t)) (x ++ y) d ↔ ((k : ℕ) × after (loop_body kept vars t) d k x y)
+kept_turns joins kept vars t x y d h as_many as_many_behind some =
+    let side : length (scope_of vars) ≡ length vars = length-map vars variable_of in
+    subst (λ f. holds f (x ++ y) d ↔ ((k : ℕ) × after (loop_body kept vars t) d k x y)) (sym h.same)
+    (joins (loop_body kept vars t) h.power x y d (omega (arith, h.least.some)) h.least.power (guard_is_guard kept (scope_of vars) t.guard) (as_many ∙ sym side) (as_many_behind ∙ sym side) some)

@@ -2,12 +2,14 @@
 #![tactic(auto)]
 
 mod ending;
+mod laws;
 mod lines;
 mod program;
 mod session;
 mod status;
 
 pub use ending::{Ending, Refusal};
+pub use laws::kept_loops_are_their_turns;
 pub use lines::report;
 pub use program::run;
 pub use status::Status;
