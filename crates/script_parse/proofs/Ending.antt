@@ -223,3 +223,35 @@ statement_has_one (other (other (other (other (other (first x)))))) = refl
 statement_has_one (other (other (other (other (other (other (first x))))))) = refl
 statement_has_one (other (other (other (other (other (other (other (first x)))))))) = ends_behind (form_toks x.right.left) (at kind.Semicolon x.right.right ∷ []) refl
 statement_has_one (other (other (other (other (other (other (other (other x)))))))) = ends_behind (declarations.toks x.right.right.right.left) (at kind.Close x.right.right.right.right.left ∷ (at kind.When x.right.right.right.right.right.left ∷ turn.toks x.right.right.right.right.right.right)) (turn_ends x.right.right.right.right.right.right)
+
+not_empty : (b : ℕ) (bs : List ℕ) → b ∷ bs ≡ [] → ⊥
+not_empty b bs e = absurd (cc)
+
+behind_first : (k b : ℕ) (bs : List ℕ) → drop (1 + k) (b ∷ bs) ≡ [] → drop k bs ≡ []
+behind_first k b bs e = let one : 1 + k ≡ suc k = omega arith in subst (λ n. drop n (b ∷ bs) ≡ []) one e
+
+-- bytes that are blanks and comments to the end hold no whole statement
+blank_to_the_end : (c : Bool) (bs : List ℕ) → drop (blank_length c bs) bs ≡ [] → statement_length c bs ≡ None
+blank_to_the_end true [] e = refl
+blank_to_the_end false [] e = refl
+blank_to_the_end true (b ∷ bs) e = ap (option_map (λ n. n + 1)) (blank_to_the_end (not (nat_eq b 10)) bs (behind_first (blank_length (not (nat_eq b 10)) bs) b bs e))
+blank_to_the_end false (b ∷ bs) e = by (nat_eq b 59) (nat_eq b 35) (is_blank b) (λ q. eqb-true b 59 q) refl refl e (blank_to_the_end true bs) (blank_to_the_end false bs)
+  where
+    by : (semi hash blank : Bool) → (semi ≡ true → b ≡ 59) → nat_eq b 35 ≡ hash → is_blank b ≡ blank → drop (cond hash (1 + blank_length true bs) (cond blank (1 + blank_length false bs) 0)) (b ∷ bs) ≡ [] → (drop (blank_length true bs) bs ≡ [] → statement_length true bs ≡ None) → (drop (blank_length false bs) bs ≡ [] → statement_length false bs ≡ None) → cond semi (Some 1) (option_map (λ n. n + 1) (statement_length hash bs)) ≡ None
+    by true true blank semi h k e in_comment in_text = absurd (false≢true (ap (λ x. nat_eq x 35) (sym (semi refl)) ∙ h))
+    by true false true semi h k e in_comment in_text = absurd (false≢true (ap is_blank (sym (semi refl)) ∙ k))
+    by true false false semi h k e in_comment in_text = absurd (not_empty b bs e)
+    by false true blank semi h k e in_comment in_text = ap (option_map (λ n. n + 1)) (in_comment (behind_first (blank_length true bs) b bs e))
+    by false false true semi h k e in_comment in_text = ap (option_map (λ n. n + 1)) (in_text (behind_first (blank_length false bs) b bs e))
+    by false false false semi h k e in_comment in_text = absurd (not_empty b bs e)
+
+-- a whole statement has a token
+pub whole_has_token : (place : ℕ) (bs : List ℕ) (n : ℕ) → statement_length false bs ≡ Some n → tokens_of place bs ≡ [] → ⊥
+whole_has_token place bs n whole none = some_is_none (sym whole ∙ blank_to_the_end false bs (nothing_left (drop (blank_length false bs) bs) none))
+  where
+    nothing_left : (rest : List ℕ) → after_blanks (lexed (length bs)) (place + blank_length false bs) rest ≡ [] → rest ≡ []
+    nothing_left [] e = refl
+    nothing_left (b ∷ rest) e = absurd (some_token e)
+      where
+        some_token : {t : PlacedToken} {ts : List PlacedToken} → t ∷ ts ≡ [] → ⊥
+        some_token e = absurd (cc)

@@ -1,5 +1,5 @@
 -- From what was fetched, and what a piece answers, to what the reader says.
-use Rattle.std.proofs.Common.{◌≡◌, ℕ, ◌+◌, List, ◌++◌, length, take, drop, true, false, refl, sym, ap, ap₂, ◌∙◌, subst, inl, inr, append-nil, Option, None, Some}
+use Rattle.std.proofs.Common.{◌≡◌, ℕ, ◌+◌, List, [], ◌++◌, length, take, drop, Bool, true, false, refl, sym, ap, ap₂, ◌∙◌, subst, inl, inr, append-nil, Option, None, Some}
 use Rattle.std.specs.Prelude.{Result, Ok, Err, IfSome, unwrap_or}
 use Rattle.std.specs.Io.KnownBytes.{prepend_known, IsAtEnd}
 use Rattle.std.proofs.lemmas.List.{take-append-drop, take-append-le, length-take-le}
@@ -22,11 +22,28 @@ use Rattle.statement_meaning.specs.declared.statement.Statement.{Statement as De
 use Rattle.script_parse.specs.Answers.{Spells, OfStatement, AreRefused, State, IsNext, IsPiece, IsCause, IsStopped, Says, GivesStatement, EndsRest, error_of}
 use Rattle.script_parse.specs.declared.errors.ScriptError.{ScriptError}
 use Rattle.script_parse.specs.declared.errors.ScriptError.TheVariants.{Read, Limit, Unbuilt, Syntax, Name, Memory}
-use Rattle.script_parse.proofs.Ending.{ends, rest_has_none, statement_has_one}
+use Rattle.script_parse.proofs.Ending.{ends, rest_has_none, statement_has_one, whole_has_token}
 
 -- a rest spells no statement
 pub rest_spells_none : (place : ℕ) (bs : List ℕ) (ts : List PlacedToken) (shape : StatementShape) → statement_length false bs ≡ None → ts ≡ tokens_of place bs → Spells ts shape → ⊥
 rest_spells_none place bs ts shape unended is h = true≢false (sym (statement_has_one h.tree) ∙ ap ends (sym h.read.spelled) ∙ ap ends is ∙ rest_has_none place bs unended)
+
+-- every error but want of memory
+abbrev is_told : ScriptError → Bool
+is_told Read = true
+is_told (Limit which) = true
+is_told Unbuilt = true
+is_told (Syntax place) = true
+is_told (Name fault place) = true
+is_told Memory = false
+
+no_memory : (e : ScriptError) → is_told e ≡ true → e ≡ Memory → ⊥
+no_memory e told is = true≢false (sym told ∙ ap is_told is)
+
+-- the first piece is within the limits of bytes, and without a token it is refused for want of memory alone
+record IsFit (p : Progress) (piece : List ℕ) (e : ScriptError) : Type 0 where
+  pub within : IsWithin p.given (length piece)
+  pub some : tokens_of p.given piece ≡ [] → e ≡ Memory
 
 -- the first statement of the bytes held is their first piece
 statement_piece : (p : Progress) (left : Option (List ℕ)) (size : ℕ) → IsStatement p size → IsPiece p left (take size p.held)
@@ -38,6 +55,10 @@ statement_piece p left size h = record { held = ap (λ n. take n p.held) (sized 
     by : (left : Option (List ℕ)) → IfSome (prepend_known p.held left) (λ bytes. take size p.held ≡ take (piece_length bytes) bytes)
     by None = tt
     by (Some more) = sym (take-append-le size p.held more h.inside) ∙ ap (λ n. take n (p.held ++ more)) (sized (p.held ++ more) (stable false p.held more size h.whole))
+
+-- a statement that is held has a token
+statement_fit : (p : Progress) (size : ℕ) (e : ScriptError) → IsStatement p size → IsFit p (take size p.held) e
+statement_fit p size e h = let long : length (take size p.held) ≡ size = length-take-le size p.held h.inside in record { within = subst (λ n. IsWithin p.given n) (sym long) h.within; some = λ none. absurd (whole_has_token p.given (take size p.held) size (alone false p.held size h.whole) none) }
 
 -- a rest is a piece
 rest_piece : (p : Progress) (left : Option (List ℕ)) → IsRest p left → IsPiece p left p.held
@@ -51,13 +72,13 @@ rest_piece p left h = record { held = all p.held h.unended.unended; ahead = by l
     by (Some more) e = subst (λ bytes. p.held ≡ take (piece_length bytes) bytes) (sym (append-nil p.held) ∙ ap (λ xs. p.held ++ xs) (sym e)) (all p.held h.unended.unended)
 
 -- the refusal of the first piece is the cause
-refused_first : (base : ℕ) (kept : List KeptSet) (p : Progress) (left : Option (List ℕ)) (before after : ℕ) (piece : List ℕ) (e : ScriptError) → IsPiece p left piece → AreRefused base kept (p.given + length piece) (tokens_of p.given piece) e → IsCause base kept p left before after e
-refused_first base kept p left before after piece Read f r = absurd r
-refused_first base kept p left before after piece (Limit which) f r = inr (inr (record { piece = piece; first = f; refused = r }))
-refused_first base kept p left before after piece Unbuilt f r = record { piece = piece; first = f; refused = r }
-refused_first base kept p left before after piece (Syntax place) f r = record { piece = piece; first = f; refused = r }
-refused_first base kept p left before after piece (Name fault place) f r = record { piece = piece; first = f; refused = r }
-refused_first base kept p left before after piece Memory f r = tt
+refused_first : (base : ℕ) (kept : List KeptSet) (p : Progress) (left : Option (List ℕ)) (before after : ℕ) (piece : List ℕ) (e : ScriptError) → IsPiece p left piece → IsFit p piece e → AreRefused base kept (p.given + length piece) (tokens_of p.given piece) e → IsCause base kept p left before after e
+refused_first base kept p left before after piece Read f fit r = absurd r
+refused_first base kept p left before after piece (Limit which) f fit r = inr (inr (record { piece = piece; first = f; within = fit.within; some = λ none. no_memory (Limit which) refl (fit.some none); refused = r }))
+refused_first base kept p left before after piece Unbuilt f fit r = record { piece = piece; first = f; within = fit.within; some = λ none. no_memory Unbuilt refl (fit.some none); refused = r }
+refused_first base kept p left before after piece (Syntax place) f fit r = record { piece = piece; first = f; within = fit.within; some = λ none. no_memory (Syntax place) refl (fit.some none); refused = r }
+refused_first base kept p left before after piece (Name fault place) f fit r = record { piece = piece; first = f; within = fit.within; some = λ none. no_memory (Name fault place) refl (fit.some none); refused = r }
+refused_first base kept p left before after piece Memory f fit r = tt
 
 -- what was fetched
 pub record IsFetched (before fetched : Progress) (left_before left_after : Option (List ℕ)) : Type 0 where
@@ -74,7 +95,7 @@ says_failure base kept before fetched lb la fb fa LongScript h f = record { take
 pub says_rest : (base : ℕ) (kept : List KeptSet) (before fetched : Progress) (left_before left_after : Option (List ℕ)) (fb fa : ℕ) (r : Result (Option DeclaredStatement) ScriptError) → IsFetched before fetched left_before left_after → IsRest fetched left_after → EndsRest kept (record { base = base; progress = fetched; live = false }) r → Says base kept before fetched left_before left_after fb fa r
 says_rest base kept before fetched lb la fb fa (Ok None) h rest is = record { taken = h.taken; needed = h.needed; rest = rest; blank = is }
 says_rest base kept before fetched lb la fb fa (Ok (Some s)) h rest is = absurd is
-says_rest base kept before fetched lb la fb fa (Err e) h rest is = record { taken = h.taken; needed = h.needed; cause = refused_first base kept fetched la fb fa fetched.held e (rest_piece fetched la rest) is }
+says_rest base kept before fetched lb la fb fa (Err e) h rest is = record { taken = h.taken; needed = h.needed; cause = refused_first base kept fetched la fb fa fetched.held e (rest_piece fetched la rest) (record { within = rest.unended.within; some = is.0 }) is.1 }
 
 -- what was needed is told by the bytes held
 needed_bytes : (before fetched : Progress) (given : ℕ) (held : List ℕ) → fetched.held ≡ held → IsNeeded before fetched → IsNeeded before (record { given = given; held = held })
@@ -97,7 +118,7 @@ says_statement base kept before fetched after lb la fb fa size (Ok (Some t)) h s
       within = subst (λ n. IsWithin before.given n) (sym long) (subst (λ g. IsWithin g size) h.taken.given s.within);
       asks = subst (λ g. OfStatement (tokens_of g text) (λ shape. IsJudged base kept shape t)) h.taken.given asks;
     })
-says_statement base kept before fetched after lb la fb fa size (Err e) h s (stays, refused) = subst (λ (x : State). IsStopped base kept before x.progress lb la fb fa e) (sym stays) (record { taken = h.taken; needed = h.needed; cause = refused_first base kept fetched la fb fa (take size fetched.held) e (statement_piece fetched la size s) refused })
+says_statement base kept before fetched after lb la fb fa size (Err e) h s (stays, refused) = subst (λ (x : State). IsStopped base kept before x.progress lb la fb fa e) (sym stays) (record { taken = h.taken; needed = h.needed; cause = refused_first base kept fetched la fb fa (take size fetched.held) e (statement_piece fetched la size s) (statement_fit fetched size e s) refused })
 
 -- a statement that is held is given
 pub gives : (kept : List KeptSet) (before : State) (after : Progress) (size : ℕ) (s : DeclaredStatement) (given : ℕ) (piece : List ℕ) → after.given ≡ before.progress.given + size → after.held ≡ drop size before.progress.held → given ≡ before.progress.given → piece ≡ take size before.progress.held → OfStatement (tokens_of given piece) (λ shape. IsJudged before.base kept shape s) → GivesStatement kept before size (record { base = before.base; progress = after; live = true }) (Ok (Some s))

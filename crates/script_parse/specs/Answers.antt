@@ -85,10 +85,10 @@ abbrev pub AnswersTokens : ℕ → List KeptSet → ℕ → List PlacedToken →
 AnswersTokens base kept end ts (Ok s) = OfStatement ts (λ shape. IsJudged base kept shape s)
 AnswersTokens base kept end ts (Err e) = AreRefused base kept end ts e
 
--- a rest without a whole statement is well where it has no token
+-- a rest without a whole statement is well where it has no token; then it is refused for want of memory alone
 abbrev pub AnswersRest : {U : Type 0} → ℕ → List KeptSet → ℕ → List ℕ → Result U ScriptError → Type 0
 AnswersRest base kept given piece (Ok u) = tokens_of given piece ≡ []
-AnswersRest base kept given piece (Err e) = AreRefused base kept (given + length piece) (tokens_of given piece) e
+AnswersRest base kept given piece (Err e) = (tokens_of given piece ≡ [] → e ≡ Memory) × AreRefused base kept (given + length piece) (tokens_of given piece) e
 
 -- a reader of statements: its base, how far it has come in the script, and whether it may go on
 pub record State : Type 0 where
@@ -118,10 +118,12 @@ pub record IsFinished (before after : Progress) (left_before left_after : Option
   pub rest : IsRest after left_after
   pub blank : tokens_of after.given after.held ≡ []
 
--- the first piece of the bytes ahead is refused
+-- the first piece of the bytes ahead keeps within the limits of bytes, has a token, and is refused
 pub record IsFirstRefused (base : ℕ) (kept : List KeptSet) (p : Progress) (left : Option (List ℕ)) (e : ScriptError) : Type 0 where
   pub piece : List ℕ
   pub first : IsPiece p left piece
+  pub within : IsWithinBytes p.given (length piece)
+  pub some : tokens_of p.given piece ≡ [] → ⊥
   pub refused : AreRefused base kept (p.given + length piece) (tokens_of p.given piece) e
 
 -- the cause of each refusal; a limit is one of bytes or one of what the piece says
@@ -162,8 +164,8 @@ GivesStatement kept before size after (Ok None) = ⊥
 GivesStatement kept before size after (Ok (Some s)) = (after ≡ record { base = before.base; progress = record { given = before.progress.given + size; held = drop size before.progress.held }; live = true }) × OfStatement (tokens_of before.progress.given (take size before.progress.held)) (λ shape. IsJudged before.base kept shape s)
 GivesStatement kept before size after (Err e) = (after ≡ before) × AreRefused before.base kept (before.progress.given + length (take size before.progress.held)) (tokens_of before.progress.given (take size before.progress.held)) e
 
--- there is no token in what is held, or it is refused
+-- there is no token in what is held, or it is refused; without a token for want of memory alone
 abbrev pub EndsRest : List KeptSet → State → Result (Option DeclaredStatement) ScriptError → Type 0
 EndsRest kept s (Ok None) = tokens_of s.progress.given s.progress.held ≡ []
 EndsRest kept s (Ok (Some t)) = ⊥
-EndsRest kept s (Err e) = AreRefused s.base kept (s.progress.given + length s.progress.held) (tokens_of s.progress.given s.progress.held) e
+EndsRest kept s (Err e) = (tokens_of s.progress.given s.progress.held ≡ [] → e ≡ Memory) × AreRefused s.base kept (s.progress.given + length s.progress.held) (tokens_of s.progress.given s.progress.held) e
