@@ -1,6 +1,6 @@
 //! Answering statements. A piece of one line is one `put`.
 
-ghost use Rattle.std.specs.Prelude.{◌≡◌, ◌≤◌, ◌<◌, [], if◌then◌else◌, length, OnOk};
+ghost use Rattle.std.specs.Prelude.{◌≡◌, ◌≤◌, ◌<◌, [], if◌then◌else◌, length, OnErr, OnOk};
 ghost use Rattle.formula_core.specs.Shape.{formula_of};
 ghost use Rattle.script_names.specs.Kept.{IsKept, kept_place, sets_limit};
 ghost use Rattle.statement_meaning.specs.Asking.{Show, Set, Print, Solve, Test, Equal, Subset, Check, asked_of};
@@ -87,6 +87,7 @@ pub(crate) fn keep(
     requires fresh { kept_place (sets_kept library.old) name ≡ None }
     requires room { length (sets_kept library.old) < sets_limit }
     ensures kept { OnOk result (sets_kept library.new ≡ grown (sets_kept library.old) (Set name vars (formula_of formula))) }
+    ensures stays { OnErr result (sets_kept library.new ≡ sets_kept library.old) }
     ensures answered { KeepsSilent (sets_kept library.old) (Set name vars (formula_of formula)) result }
 {
     let canon = match automaton(alloc, &vars, &formula) {
@@ -200,7 +201,7 @@ fn check<K: Sink>(alloc: Global, formula: &Formula, out: &mut K) -> Result<(), U
 /// `NoPower` where no power of a loop's matrix comes again, and `Closure` where its closure passes a limit, the first in the order of the
 /// variant; `Heavy` where a construction has more than 4,194,304 cells, and `KeptCells` where the kept sets would have more than 67,108,864 together;
 /// nothing is written then. `Fault` where the sink counted a fault; a part of the piece is written. `Memory` where memory is wanting, before a
-/// byte of the piece is written.
+/// byte of the piece is written. Each leaves the kept sets as they were.
 pub fn answer<K: Sink>(
     alloc: Global,
     library: &mut Library,
@@ -210,6 +211,7 @@ pub fn answer<K: Sink>(
     requires fit { IsFit (sets_kept library.old) (asked_of statement) }
     ensures answered { Answered (sets_kept library.old) (asked_of statement) (K.held out.old) (K.held out.new) (K.faults out.old) (K.faults out.new) result }
     ensures kept { OnOk result (sets_kept library.new ≡ grown (sets_kept library.old) (asked_of statement)) }
+    ensures stays { OnErr result (sets_kept library.new ≡ sets_kept library.old) }
     ensures count { K.faults out.old ≤ K.faults out.new }
 {
     match statement {

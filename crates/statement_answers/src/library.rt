@@ -85,7 +85,7 @@ impl Library {
         &self.held[at as usize]
     }
 
-    /// Keeps a set, with its header and its automaton, behind the others.
+    /// Keeps a set, with its header and its automaton, behind the others. A refusal leaves the kept sets as they were.
     pub(crate) fn put(
         &mut self,
         name: Name,
@@ -102,6 +102,7 @@ impl Library {
         ensures within { OnOk result (self.old.cells + cells_of held.canon.table ≤ kept_cells_limit) }
         ensures over { IfErr result (λ e. e ≡ Unanswered.KeptCells → kept_cells_limit < self.old.cells + cells_of held.canon.table) }
         ensures only { IfErr result (λ e. (e ≡ Unanswered.KeptCells) ⊎ (e ≡ Unanswered.Memory)) }
+        ensures stays { OnErr result (sets_kept self.new ≡ sets_kept self.old) }
     {
         let cells = self.cells + table_cells(held.canon.table());
         if cells > KEPT_CELLS_LIMIT {

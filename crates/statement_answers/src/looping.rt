@@ -1,6 +1,6 @@
 //! Keeping the pairs of vectors that the turns of a loop join.
 
-ghost use Rattle.std.specs.Prelude.{◌≡◌, IfErr, IfOk, OnOk};
+ghost use Rattle.std.specs.Prelude.{◌≡◌, IfErr, IfOk, OnErr, OnOk};
 ghost use Rattle.formula_core.specs.Shape.{formula_of};
 ghost use Rattle.loop_closure.specs.Bodies.{body_of};
 ghost use Rattle.loop_closure.specs.Closing.{IsBody};
@@ -63,6 +63,7 @@ pub(crate) fn keep_loop(
 ) -> Result<(), Unanswered>
     requires { IsFitLoop (sets_kept library.old) name vars (body_of body) }
     ensures kept { OnOk result (sets_kept library.new ≡ grown (sets_kept library.old) (Loop name vars (body_of body))) }
+    ensures stays { OnErr result (sets_kept library.new ≡ sets_kept library.old) }
     ensures answered { KeepsSilent (sets_kept library.old) (Loop name vars (body_of body)) result }
 {
     match pairs(alloc, &body) {
