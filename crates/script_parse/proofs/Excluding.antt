@@ -1,5 +1,5 @@
 -- Tokens have no two answers but for want of memory.
-use Rattle.std.proofs.Common.{◌≡◌, ℕ, List, inl, inr, true, false, refl, sym, ap, ◌∙◌, subst}
+use Rattle.std.proofs.Common.{◌≡◌, ℕ, List, inl, inr, true, false, refl, sym, ap, ◌∙◌, subst, None}
 use Rattle.std.specs.Prelude.{◌⊎◌}
 use Rattle.std.proofs.lemmas.Bool.{true≢false}
 use Rattle.script_tokens.specs.Tokens.{PlacedToken}
@@ -10,11 +10,11 @@ use Rattle.script_names.specs.Kept.{KeptSet}
 use Rattle.script_meaning.specs.declared.limits.Which.TheVariants.{Nesting}
 use Rattle.script_meaning.specs.declared.resolving.Refusal.{Refusal}
 use Rattle.script_meaning.specs.declared.resolving.Refusal.TheVariants.{Fault, Limit as Passed, Memory as Wanting}
-use Rattle.statement_meaning.specs.Judging.{IsJudged, IsLimited, IsStatementRefused, statement_fault}
+use Rattle.statement_meaning.specs.Judging.{IsJudged, IsLimited, IsStatementRefused, IsStatementWithin, statement_fault}
 use Rattle.statement_meaning.specs.declared.statement.Statement.{Statement as DeclaredStatement}
-use Rattle.statement_meaning.proofs.Excluding.{refusals_are_one as one_refusal, judged_or_refused}
+use Rattle.statement_meaning.proofs.Excluding.{refusals_are_one as one_refusal, fit_or_refused as fit_or_not, judged_or_refused}
 use Rattle.script_parse.specs.Unbuilt.{has_unbuilt}
-use Rattle.script_parse.specs.Answers.{OfStatement, IsStatementCause, AreRefused, place_at}
+use Rattle.script_parse.specs.Answers.{Spells, OfStatement, IsStatementCause, AreRefused, place_at}
 use Rattle.script_parse.specs.declared.errors.ScriptError.{ScriptError}
 use Rattle.script_parse.specs.declared.errors.ScriptError.TheVariants.{Read, Limit, Unbuilt, Syntax, Name, Memory}
 
@@ -102,3 +102,27 @@ asked_or_refused base kept end ts s e o h = by (cause base kept end ts e h)
     by (inl p) = p
     by (inr (inl (b, p))) = absurd (true≢false (sym b ∙ o.spells.built))
     by (inr (inr (b, x, k, p))) = of_whole (subst (λ z. Claims base kept end ts z e) (same ts x (Whole o.spells.tree) k o.spells.read) p)
+
+-- the same of a statement whose names are right and that passes no limit
+pub fit_or_refused : (base : ℕ) (kept : List KeptSet) (end : ℕ) (ts : List PlacedToken) (e : ScriptError) → OfStatement ts (λ shape. (statement_fault kept shape ≡ None) × IsStatementWithin base kept shape) → AreRefused base kept end ts e → e ≡ Memory
+fit_or_refused base kept end ts e o h = by (cause base kept end ts e h)
+  where
+    judged : StatementCause base kept o.shape e → e ≡ Memory
+    judged (r, i, p) = p ∙ ap as_error (fit_or_not base kept o.shape r o.is.0 o.is.1 i)
+
+    of_whole : Claims base kept end ts (Whole o.spells.tree) e → e ≡ Memory
+    of_whole i = judged (statement_cause base kept o.shape e (subst (λ u. IsStatementCause base kept u e) o.spells.is i))
+
+    by : Cause base kept end ts e → e ≡ Memory
+    by (inl p) = p
+    by (inr (inl (b, p))) = absurd (true≢false (sym b ∙ o.spells.built))
+    by (inr (inr (b, x, k, p))) = of_whole (subst (λ z. Claims base kept end ts z e) (same ts x (Whole o.spells.tree) k o.spells.read) p)
+
+-- tokens spell one statement
+abbrev tree_shape : StatementShape → Outcome → StatementShape
+tree_shape s (Whole a) = statement_shape a
+tree_shape s (Wrong k) = s
+tree_shape s (Deep k) = s
+
+pub one_shape : (ts : List PlacedToken) (s t : StatementShape) → Spells ts s → Spells ts t → s ≡ t
+one_shape ts s t h i = sym h.is ∙ ap (tree_shape s) (same ts (Whole h.tree) (Whole i.tree) h.read i.read) ∙ i.is

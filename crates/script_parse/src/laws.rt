@@ -1,11 +1,11 @@
 //! Laws of answers.
 
-ghost use Rattle.std.specs.Prelude.{◌≡◌, ◌⊎◌, ℕ, List, ◌∷◌, ◌++◌, Some};
+ghost use Rattle.std.specs.Prelude.{◌≡◌, ◌⊎◌, ℕ, List, ◌∷◌, ◌++◌, None, Some};
 ghost use Rattle.script_pieces.specs.Cuts.{cut};
 ghost use Rattle.script_pieces.specs.Taking.{Progress};
 ghost use Rattle.script_tokens.specs.Tokens.{PlacedToken};
 ghost use Rattle.script_names.specs.Kept.{KeptSet};
-ghost use Rattle.statement_meaning.specs.Judging.{IsJudged};
+ghost use Rattle.statement_meaning.specs.Judging.{IsJudged, IsStatementWithin, statement_fault};
 ghost use Rattle.script_parse.specs.Answers.{OfStatement, Spells, AreRefused, IsNext};
 ghost use Rattle.script_parse.specs.Plain.{IsPlainStatement};
 ghost use Rattle.script_statements.specs.Statements.{StatementShape};
@@ -14,9 +14,12 @@ ghost use Rattle.script_parse.specs.declared.errors.ScriptError.TheVariants.{Mem
 use crate::errors::ScriptError;
 use statement_meaning::Statement;
 
-/// The tokens of a piece that are a statement are refused for want of memory alone, and they have one refusal besides it.
+/// The tokens of a piece that are a statement are refused for want of memory alone, whether it is known by what the program holds of it or by its
+/// names and limits; they spell one statement, and they have one refusal besides want of memory.
 pub fn answers_exclude_each_other()
     ensures asked { (base : ℕ) (kept : List KeptSet) (end : ℕ) (ts : List PlacedToken) (s : Statement) (e : ScriptError) → OfStatement ts (λ shape. IsJudged base kept shape s) → AreRefused base kept end ts e → e ≡ Memory }
+    ensures fit { (base : ℕ) (kept : List KeptSet) (end : ℕ) (ts : List PlacedToken) (e : ScriptError) → OfStatement ts (λ shape. (statement_fault kept shape ≡ None) × IsStatementWithin base kept shape) → AreRefused base kept end ts e → e ≡ Memory }
+    ensures shape { (ts : List PlacedToken) (s t : StatementShape) → Spells ts s → Spells ts t → s ≡ t }
     ensures refused { (base : ℕ) (kept : List KeptSet) (end : ℕ) (ts : List PlacedToken) (e f : ScriptError) → AreRefused base kept end ts e → AreRefused base kept end ts f → (e ≡ f) ⊎ (e ≡ Memory) ⊎ (f ≡ Memory) }
 {}
 

@@ -2,3 +2,4 @@ pub mod Shelving
 pub mod Saying
 pub mod Conditions
 pub mod Pairing
+pub mod Excluding

@@ -1,5 +1,5 @@
 -- What is written for a statement, by its meaning. Own.
-use Rattle.std.specs.Prelude.{ℕ, ◌+◌, ◌<◌, ◌≤◌, ◌≡◌, ◌⊎◌, List, [], ◌∷◌, All, length, codes, Option, None, Result, Ok, Err, ℤ}
+use Rattle.std.specs.Prelude.{ℕ, ◌+◌, ◌<◌, ◌≤◌, ◌≡◌, ◌⊎◌, List, [], ◌∷◌, All, length, codes, Bool, true, false, Option, None, Result, Ok, Err, ℤ}
 use Rattle.lash_model.specs.Faults.{IsFaultCounted}
 use Rattle.lash_model.specs.Formulas.{Sort, Formula}
 use Rattle.lash_model.specs.Meaning.{Solves}
@@ -179,3 +179,37 @@ KeepsSilent kept asked (Err Memory) = Unit
 abbrev pub unbuilt_of : CompileError → Unanswered
 unbuilt_of TooHeavy = Heavy
 unbuilt_of NoMemory = Memory
+
+-- what a statement asks can be answered: its steps are within the limit of cells, its set fits beside the kept ones, its loop has a power and a
+-- closure within the limits
+abbrev pub IsAnswerable : List KeptSet → Asked → Type 0
+IsAnswerable kept (Show vars f) = (t : Table) × IsAnswer vars f t
+IsAnswerable kept (Set name vars f) = IsKeptWith kept vars f (λ n. n ≤ kept_cells_limit)
+IsAnswerable kept (Print at) = Unit {0}
+IsAnswerable kept (Solve at) = Unit {0}
+IsAnswerable kept (Test at values) = Unit {0}
+IsAnswerable kept (Equal i j) = Unit {0}
+IsAnswerable kept (Subset i j) = OfTwo kept i j ArePaired
+IsAnswerable kept (Check f) = (t : Table) × IsAnswer [] f t
+IsAnswerable kept (Loop name vars body) = HasPairs body × IsKeptWith kept vars (pairs_of body) (λ n. n ≤ kept_cells_limit)
+
+-- why it is not answered, where that rests on what is asked
+abbrev pub IsUnanswered : List KeptSet → Asked → Unanswered → Type 0
+IsUnanswered kept asked Heavy = IsHeavyAsked kept asked
+IsUnanswered kept asked NoPower = IsPowerless kept asked
+IsUnanswered kept asked (Closure which) = IsPassedByClosure which kept asked
+IsUnanswered kept asked KeptCells = IsTooMuch kept asked
+IsUnanswered kept asked Fault = ⊥
+IsUnanswered kept asked Memory = ⊥
+
+-- `print` and `equal` work on what is held, and take no memory
+abbrev pub takes_memory : Asked → Bool
+takes_memory (Show vars f) = true
+takes_memory (Set name vars f) = true
+takes_memory (Print at) = false
+takes_memory (Solve at) = true
+takes_memory (Test at values) = true
+takes_memory (Equal i j) = false
+takes_memory (Subset i j) = true
+takes_memory (Check f) = true
+takes_memory (Loop name vars body) = true

@@ -1,12 +1,12 @@
 //! Answering statements. A piece of one line is one `put`.
 
-ghost use Rattle.std.specs.Prelude.{◌≡◌, ◌≤◌, ◌<◌, [], if◌then◌else◌, length, OnErr, OnOk};
+ghost use Rattle.std.specs.Prelude.{◌≡◌, ◌≤◌, ◌<◌, [], if◌then◌else◌, false, length, IfErr, OnErr, OnOk};
 ghost use Rattle.formula_core.specs.Shape.{formula_of};
 ghost use Rattle.script_names.specs.Kept.{IsKept, kept_place, sets_limit};
 ghost use Rattle.statement_meaning.specs.Asking.{Show, Set, Print, Solve, Test, Equal, Subset, Check, asked_of};
 ghost use Rattle.statement_answers.specs.Automata.{IsGiven};
 ghost use Rattle.statement_answers.specs.Keeping.{OfKept, OfTwo, grown, sets_kept};
-ghost use Rattle.statement_answers.specs.Pieces.{Answered, FitsVariables, IsFit, IsSaid, KeepsSilent, unbuilt_of};
+ghost use Rattle.statement_answers.specs.Pieces.{Answered, FitsVariables, IsFit, IsSaid, KeepsSilent, takes_memory, unbuilt_of};
 
 use crate::building::{CELLS_LIMIT, automaton, binary};
 use crate::errors::Unanswered;
@@ -36,6 +36,7 @@ fn unbuilt(error: CompileError) -> Unanswered
 // Puts a line.
 fn say<K: Sink>(line: &[u8], out: &mut K) -> Result<(), Unanswered>
     ensures said { IsSaid line.now (K.held out.old) (K.held out.new) (K.faults out.old) (K.faults out.new) result }
+    ensures only { IfErr result (λ e. e ≡ Unanswered.Fault) }
     ensures count { K.faults out.old ≤ K.faults out.new }
 {
     match out.put(line) {
@@ -47,6 +48,7 @@ fn say<K: Sink>(line: &[u8], out: &mut K) -> Result<(), Unanswered>
 // Puts the one line or the other.
 fn decide<K: Sink>(claim: bool, yes: &[u8], no: &[u8], out: &mut K) -> Result<(), Unanswered>
     ensures said { IsSaid (if claim then yes.now else no.now) (K.held out.old) (K.held out.new) (K.faults out.old) (K.faults out.new) result }
+    ensures only { IfErr result (λ e. e ≡ Unanswered.Fault) }
     ensures count { K.faults out.old ≤ K.faults out.new }
 {
     if claim { say(yes, out) } else { say(no, out) }
@@ -105,6 +107,7 @@ pub(crate) fn keep(
 fn print<K: Sink>(library: &Library, at: u32, out: &mut K) -> Result<(), Unanswered>
     requires { at < length (sets_kept library.now) }
     ensures answered { Answered (sets_kept library.now) (Print at) (K.held out.old) (K.held out.new) (K.faults out.old) (K.faults out.new) result }
+    ensures only { IfErr result (λ e. e ≡ Unanswered.Fault) }
     ensures count { K.faults out.old ≤ K.faults out.new }
 {
     let held = library.held(at);
@@ -151,6 +154,7 @@ fn test<K: Sink>(
 fn compare<K: Sink>(library: &Library, left: u32, right: u32, out: &mut K) -> Result<(), Unanswered>
     requires { OfTwo (sets_kept library.now) left right (λ k l. length k.vars ≡ length l.vars) }
     ensures answered { Answered (sets_kept library.now) (Equal left right) (K.held out.old) (K.held out.new) (K.faults out.old) (K.faults out.new) result }
+    ensures only { IfErr result (λ e. e ≡ Unanswered.Fault) }
     ensures count { K.faults out.old ≤ K.faults out.new }
 {
     let agree = equal(&library.held(left).canon, &library.held(right).canon);
@@ -201,7 +205,7 @@ fn check<K: Sink>(alloc: Global, formula: &Formula, out: &mut K) -> Result<(), U
 /// `NoPower` where no power of a loop's matrix comes again, and `Closure` where its closure passes a limit, the first in the order of the
 /// variant; `Heavy` where a construction has more than 4,194,304 cells, and `KeptCells` where the kept sets would have more than 67,108,864 together;
 /// nothing is written then. `Fault` where the sink counted a fault; a part of the piece is written. `Memory` where memory is wanting, before a
-/// byte of the piece is written. Each leaves the kept sets as they were.
+/// byte of the piece is written; `print` and `equal` take none. Each leaves the kept sets as they were.
 pub fn answer<K: Sink>(
     alloc: Global,
     library: &mut Library,
@@ -212,6 +216,7 @@ pub fn answer<K: Sink>(
     ensures answered { Answered (sets_kept library.old) (asked_of statement) (K.held out.old) (K.held out.new) (K.faults out.old) (K.faults out.new) result }
     ensures kept { OnOk result (sets_kept library.new ≡ grown (sets_kept library.old) (asked_of statement)) }
     ensures stays { OnErr result (sets_kept library.new ≡ sets_kept library.old) }
+    ensures memory { takes_memory (asked_of statement) ≡ false → IfErr result (λ e. e ≡ Unanswered.Memory → ⊥) }
     ensures count { K.faults out.old ≤ K.faults out.new }
 {
     match statement {

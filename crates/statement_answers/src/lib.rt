@@ -4,10 +4,12 @@
 mod answering;
 mod building;
 mod errors;
+mod laws;
 mod library;
 mod looping;
 
 pub use answering::answer;
 pub use building::binary;
 pub use errors::Unanswered;
+pub use laws::answers_have_one_cause;
 pub use library::Library;

@@ -1,5 +1,5 @@
 -- A statement has no two judgements but for want of memory.
-use Rattle.std.proofs.Common.{[], length, ◌≡◌, ℕ, ◌≤◌, ◌<◌, List, map, inl, inr, true, false, refl, sym, ap, ◌∙◌, subst, Some, arith}
+use Rattle.std.proofs.Common.{[], length, ◌≡◌, ℕ, ◌≤◌, ◌<◌, List, map, inl, inr, true, false, refl, sym, ap, ◌∙◌, subst, Some, None, arith}
 use Rattle.std.specs.Prelude.{◌⊎◌}
 use Rattle.std.proofs.lemmas.Bool.{true≢false}
 use Rattle.std.proofs.lemmas.Nat.Gcd.{le_of_dvd}
@@ -77,13 +77,17 @@ refusals_are_one base kept shape e f h i = by (cause base kept shape e h) (cause
     by (inr (inr (w, l, p))) (inr (inl (x, m, q))) = absurd (not_none x (sym l.names ∙ m))
     by (inr (inr (v, k, p))) (inr (inr (w, l, q))) = inl (p ∙ ap Limit (one_limit base kept shape v w k.first l.first) ∙ sym q)
 
-pub judged_or_refused : (base : ℕ) (kept : List KeptSet) (shape : StatementShape) (s : DeclaredStatement) (e : Refusal) → IsJudged base kept shape s → IsStatementRefused base kept shape e → e ≡ Memory
-judged_or_refused base kept shape s e h i = by (cause base kept shape e i)
+-- a statement whose names are right and that passes no limit is refused for want of memory alone
+pub fit_or_refused : (base : ℕ) (kept : List KeptSet) (shape : StatementShape) (e : Refusal) → statement_fault kept shape ≡ None → IsStatementWithin base kept shape → IsStatementRefused base kept shape e → e ≡ Memory
+fit_or_refused base kept shape e names within i = by (cause base kept shape e i)
   where
     by : Cause base kept shape e → e ≡ Memory
     by (inl p) = p
-    by (inr (inl (x, m, p))) = absurd (not_none x (sym h.names ∙ m))
-    by (inr (inr (w, l, p))) = absurd (within_all base kept shape w h.within l.first)
+    by (inr (inl (x, m, p))) = absurd (not_none x (sym names ∙ m))
+    by (inr (inr (w, l, p))) = absurd (within_all base kept shape w within l.first)
+
+pub judged_or_refused : (base : ℕ) (kept : List KeptSet) (shape : StatementShape) (s : DeclaredStatement) (e : Refusal) → IsJudged base kept shape s → IsStatementRefused base kept shape e → e ≡ Memory
+judged_or_refused base kept shape s e h i = fit_or_refused base kept shape e h.names h.within i
 
 pub one_asked : (base : ℕ) (kept : List KeptSet) (shape : StatementShape) (s t : DeclaredStatement) → IsJudged base kept shape s → IsJudged base kept shape t → asked_of s ≡ asked_of t
 one_asked base kept shape s t h i = same_some (asked_of s) (asked_of t) (sym h.asks ∙ i.asks)
