@@ -10,6 +10,7 @@ use Rattle.statement_meaning.specs.Asking.{Asked}
 use Rattle.statement_answers.specs.Keeping.{grown}
 use Rattle.lash_io.specs.Sinks.{Holds}
 use Rattle.lash_io.proofs.Holding.{holds_none, holds_then}
+use Rattle.script_pieces.specs.Limits.{script_bytes_limit}
 use Rattle.script_pieces.specs.Taking.{Progress, Takes}
 use Rattle.lash_model.specs.Faults.{IsFaultCounted, last_count}
 use Rattle.lash_command.specs.Answers.{Answer, IsAnswered, AreAnswered, kept_behind, texts_of, pieces_of, Outside, HasCome}
@@ -24,17 +25,18 @@ none_prepended (Some known) = refl
 
 -- nothing was taken yet
 pub come_none : (o : Outside) → HasCome o o [] (record { given = 0; held = [] }) 0
-come_none o = record { answers = []; count = refl; each = tt; keeps = refl; given = refl; taken = none_prepended o.left; gained = holds_none o.held; read_faults = omega arith; write_faults = omega arith }
+come_none o = record { answers = []; count = refl; each = tt; keeps = refl; given = refl; taken = none_prepended o.left; most = omega arith; gained = holds_none o.held; read_faults = omega arith; write_faults = omega arith }
 
 -- bytes were taken
-pub come_taken : (before now : Outside) (kept : List KeptSet) (p q : Progress) (answered : ℕ) (left : Option (List ℕ)) (faults : ℕ) → HasCome before now kept p answered → Takes p q now.left left → now.read_faults ≤ faults → HasCome before (record now { left = left; read_faults = faults }) kept q answered
-come_taken before now kept p q answered left faults h t rose = record {
+pub come_taken : (before now : Outside) (kept : List KeptSet) (p q : Progress) (answered : ℕ) (left : Option (List ℕ)) (faults : ℕ) → HasCome before now kept p answered → Takes p q now.left left → q.given + length q.held ≤ script_bytes_limit + 1 → now.read_faults ≤ faults → HasCome before (record now { left = left; read_faults = faults }) kept q answered
+come_taken before now kept p q answered left faults h t most rose = record {
   answers = h.answers;
   count = h.count;
   each = h.each;
   keeps = h.keeps;
   given = t.given ∙ h.given;
   taken = h.taken ∙ ap (prepend_known (texts_of h.answers ++ p.held)) t.left ∙ prepended (texts_of h.answers ++ p.held) t.taken left ∙ ap (λ xs. prepend_known xs left) (append_assoc (texts_of h.answers) p.held t.taken ∙ ap (λ xs. texts_of h.answers ++ xs) (sym t.held));
+  most = most;
   gained = h.gained;
   read_faults = omega (arith, h.read_faults, rose);
   write_faults = h.write_faults;
@@ -73,6 +75,7 @@ come_more before now kept given x q answered held faults h gives a holds rose = 
   keeps = ap (λ ks. grown ks x.asked) h.keeps ∙ sym (kept_more [] h.answers x);
   given = gives ∙ ap (λ n. n + length x.text) h.given ∙ sym (length-append (texts_of h.answers) x.text) ∙ ap length (sym (texts_more h.answers x));
   taken = h.taken ∙ ap (λ xs. prepend_known xs now.left) (sym (append_assoc (texts_of h.answers) x.text q.held) ∙ ap (λ xs. xs ++ q.held) (sym (texts_more h.answers x)));
+  most = omega (arith, h.most, length-append x.text q.held, gives);
   gained = subst (λ xs. Holds before.held held xs) (sym (pieces_more h.answers x)) (holds_then before.held now.held held (pieces_of h.answers) x.piece h.gained holds);
   read_faults = h.read_faults;
   write_faults = omega (arith, h.write_faults, rose);
@@ -90,6 +93,7 @@ come_kept before now kept p answered held faults h holds rose = record {
   keeps = h.keeps;
   given = h.given;
   taken = h.taken;
+  most = h.most;
   gained = subst (λ xs. Holds before.held held xs) (append-nil (pieces_of h.answers)) (holds_then before.held now.held held (pieces_of h.answers) [] h.gained holds);
   read_faults = h.read_faults;
   write_faults = omega (arith, h.write_faults, rose);

@@ -3,3 +3,4 @@ mod LoopBodies
 mod Fitting
 mod Coming
 mod Turning
+pub mod Endings

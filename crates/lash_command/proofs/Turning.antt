@@ -1,10 +1,12 @@
 -- What a turn says: a statement was answered, or the run ends.
-use Rattle.std.proofs.Common.{◌≡◌, ℕ, ◌+◌, ◌≤◌, List, [], ◌++◌, length, inl, inr, refl, subst, Option, None, Some}
+use Rattle.std.proofs.Common.{◌≡◌, ℕ, ◌+◌, ◌≤◌, List, [], ◌++◌, length, arith, inl, inr, refl, subst, Option, None, Some}
 use Rattle.std.specs.Prelude.{Ok, Err}
 use Rattle.lash_io.specs.Sinks.{Holds}
 use Rattle.lash_io.proofs.Holding.{holds_none}
 use Rattle.script_statements.specs.Statements.{StatementShape}
 use Rattle.script_tokens.specs.Lexing.{tokens_of}
+use Rattle.std.proofs.lemmas.List.{length-append}
+use Rattle.script_pieces.specs.Limits.{script_bytes_limit}
 use Rattle.script_pieces.specs.Taking.{Progress}
 use Rattle.script_names.specs.Kept.{KeptSet}
 use Rattle.statement_meaning.specs.Asking.{Asked, asked_of}
@@ -30,9 +32,10 @@ finished_of base kept p q lb la fb fa None e h = h
 finished_of base kept p q lb la fb fa (Some t) e h = absurd (cc)
 
 -- the reader had what was outside before, and left this
-pub record Reads (base : ℕ) (kept : List KeptSet) (p : Progress) (before now : Outside) (faults n : ℕ) : Type 0 where
+pub record Reads (base : ℕ) (kept : List KeptSet) (p q : Progress) (before now : Outside) (faults n : ℕ) : Type 0 where
   pub two : base ≡ 2
   pub come : HasCome before now kept p n
+  pub most : q.given + length q.held ≤ script_bytes_limit + 1
   pub rose : now.read_faults ≤ faults
 
 -- what the statement that was given asks
@@ -49,19 +52,22 @@ answered base kept p q lb la s piece two h is = record {
   is = is;
 }
 
+as_many : (given : ℕ) (text : List ℕ) (q : Progress) → q.given + length q.held ≤ script_bytes_limit + 1 → q.given ≡ given + length text → given + length (text ++ q.held) ≤ script_bytes_limit + 1
+as_many given text q most gives = omega (arith, most, length-append text q.held, gives)
+
 -- the statement's bytes are held
-held_statement : (base : ℕ) (kept : List KeptSet) (p q : Progress) (before now : Outside) (left : Option (List ℕ)) (faults n : ℕ) (s : Statement) → Reads base kept p before now faults n → (h : IsNext base kept p q now.left left s) → HasCome before (record now { left = left; read_faults = faults }) kept (record { given = p.given; held = h.text ++ q.held }) n
-held_statement base kept p q before now left faults n s r h = come_taken before now kept p (record { given = p.given; held = h.text ++ q.held }) n left faults r.come h.taken r.rose
+held_statement : (base : ℕ) (kept : List KeptSet) (p q : Progress) (before now : Outside) (left : Option (List ℕ)) (faults n : ℕ) (s : Statement) → Reads base kept p q before now faults n → (h : IsNext base kept p q now.left left s) → HasCome before (record now { left = left; read_faults = faults }) kept (record { given = p.given; held = h.text ++ q.held }) n
+held_statement base kept p q before now left faults n s r h = come_taken before now kept p (record { given = p.given; held = h.text ++ q.held }) n left faults r.come h.taken (as_many p.given h.text q r.most h.given) r.rose
 
 -- a statement was answered
-pub turned : (base : ℕ) (kept : List KeptSet) (p q : Progress) (before now : Outside) (left held : Option (List ℕ)) (faults write_faults n : ℕ) (s : Statement) {U : Type 0} (u : U) → Reads base kept p before now faults n → IsNext base kept p q now.left left s → now.write_faults ≤ write_faults → Answered kept (asked_of s) now.held held now.write_faults write_faults (Ok u) → HasCome before (record { left = left; read_faults = faults; held = held; write_faults = write_faults }) (grown kept (asked_of s)) q (n + 1)
+pub turned : (base : ℕ) (kept : List KeptSet) (p q : Progress) (before now : Outside) (left held : Option (List ℕ)) (faults write_faults n : ℕ) (s : Statement) {U : Type 0} (u : U) → Reads base kept p q before now faults n → IsNext base kept p q now.left left s → now.write_faults ≤ write_faults → Answered kept (asked_of s) now.held held now.write_faults write_faults (Ok u) → HasCome before (record { left = left; read_faults = faults; held = held; write_faults = write_faults }) (grown kept (asked_of s)) q (n + 1)
 turned base kept p q before now left held faults write_faults n s u r h rose shown =
     come_more before (record now { left = left; read_faults = faults }) kept p.given (record { text = h.text; asked = asked_of s; piece = shown.0 }) q n held write_faults
     (held_statement base kept p q before now left faults n s r h) h.given
     (answered base kept p q now.left left s shown.0 r.two h shown.1.0) shown.1.1 rose
 
 -- the run stops at the statement that was given, of which nothing was written
-stops_at_it : (base : ℕ) (kept : List KeptSet) (p q : Progress) (before now : Outside) (left held : Option (List ℕ)) (faults write_faults n : ℕ) (s : Statement) (P : List KeptSet → Asked → Type 0) → Reads base kept p before now faults n → IsNext base kept p q now.left left s → now.write_faults ≤ write_faults → P kept (asked_of s) → Holds now.held held [] → StopsAt before (record { left = left; read_faults = faults; held = held; write_faults = write_faults }) (n + 1) (IsNextAsked P)
+stops_at_it : (base : ℕ) (kept : List KeptSet) (p q : Progress) (before now : Outside) (left held : Option (List ℕ)) (faults write_faults n : ℕ) (s : Statement) (P : List KeptSet → Asked → Type 0) → Reads base kept p q before now faults n → IsNext base kept p q now.left left s → now.write_faults ≤ write_faults → P kept (asked_of s) → Holds now.held held [] → StopsAt before (record { left = left; read_faults = faults; held = held; write_faults = write_faults }) (n + 1) (IsNextAsked P)
 stops_at_it base kept p q before now left held faults write_faults n s P r h rose is none = (
   n,
   (
@@ -76,7 +82,7 @@ stops_at_it base kept p q before now left held faults write_faults n s P r h ros
 )
 
 -- a statement was not answered
-pub unanswered_ends : (base : ℕ) (kept : List KeptSet) (p q : Progress) (before now : Outside) (left held : Option (List ℕ)) (faults write_faults n : ℕ) (s : Statement) (U : Type 0) (cause : Unanswered) → Reads base kept p before now faults n → IsNext base kept p q now.left left s → now.write_faults ≤ write_faults → Answered kept (asked_of s) now.held held now.write_faults write_faults {U = U} (Err cause) → Ends (unanswered_ending (n + 1) cause) before (record { left = left; read_faults = faults; held = held; write_faults = write_faults })
+pub unanswered_ends : (base : ℕ) (kept : List KeptSet) (p q : Progress) (before now : Outside) (left held : Option (List ℕ)) (faults write_faults n : ℕ) (s : Statement) (U : Type 0) (cause : Unanswered) → Reads base kept p q before now faults n → IsNext base kept p q now.left left s → now.write_faults ≤ write_faults → Answered kept (asked_of s) now.held held now.write_faults write_faults {U = U} (Err cause) → Ends (unanswered_ending (n + 1) cause) before (record { left = left; read_faults = faults; held = held; write_faults = write_faults })
 unanswered_ends base kept p q before now left held faults write_faults n s U answering.Heavy r h rose shown = stops_at_it base kept p q before now left held faults write_faults n s IsHeavyAsked r h rose shown.0 shown.1
 unanswered_ends base kept p q before now left held faults write_faults n s U answering.NoPower r h rose shown = stops_at_it base kept p q before now left held faults write_faults n s IsPowerless r h rose shown.0 shown.1
 unanswered_ends base kept p q before now left held faults write_faults n s U (answering.Closure which) r h rose shown = inr (inr (stops_at_it base kept p q before now left held faults write_faults n s (IsPassedByClosure which) r h rose shown.0 shown.1))
@@ -113,10 +119,10 @@ unanswered_ends base kept p q before now left held faults write_faults n s U ans
 )
 
 -- no statement was given
-stopped : (base : ℕ) (kept : List KeptSet) (p q : Progress) (before now : Outside) (left : Option (List ℕ)) (faults n : ℕ) (e : ScriptError) → Reads base kept p before now faults n → IsStopped base kept p q now.left left now.read_faults faults e → HasCome before (record now { left = left; read_faults = faults }) kept q n
-stopped base kept p q before now left faults n e r h = come_taken before now kept p q n left faults r.come h.taken r.rose
+stopped : (base : ℕ) (kept : List KeptSet) (p q : Progress) (before now : Outside) (left : Option (List ℕ)) (faults n : ℕ) (e : ScriptError) → Reads base kept p q before now faults n → IsStopped base kept p q now.left left now.read_faults faults e → HasCome before (record now { left = left; read_faults = faults }) kept q n
+stopped base kept p q before now left faults n e r h = come_taken before now kept p q n left faults r.come h.taken r.most r.rose
 
-pub unread_ends : (base : ℕ) (kept : List KeptSet) (p q : Progress) (before now : Outside) (left : Option (List ℕ)) (faults n : ℕ) (e : ScriptError) → Reads base kept p before now faults n → IsStopped base kept p q now.left left now.read_faults faults e → Ends (unread_ending (n + 1) e) before (record now { left = left; read_faults = faults })
+pub unread_ends : (base : ℕ) (kept : List KeptSet) (p q : Progress) (before now : Outside) (left : Option (List ℕ)) (faults n : ℕ) (e : ScriptError) → Reads base kept p q before now faults n → IsStopped base kept p q now.left left now.read_faults faults e → Ends (unread_ending (n + 1) e) before (record now { left = left; read_faults = faults })
 unread_ends base kept p q before now left faults n reading.Read r h = (
   n,
   record {

@@ -7,7 +7,7 @@ use Rattle.lash_io.specs.Sinks.{Holds, HoldsPart}
 use Rattle.script_tokens.specs.Lexing.{tokens_of}
 use Rattle.script_statements.specs.Statements.{StatementShape}
 use Rattle.script_pieces.specs.Cuts.{statement_length}
-use Rattle.script_pieces.specs.Limits.{IsWithin as IsWithinBytes}
+use Rattle.script_pieces.specs.Limits.{script_bytes_limit, IsWithin as IsWithinBytes}
 use Rattle.script_pieces.specs.Taking.{Progress}
 use Rattle.script_pieces.specs.Answers.{IsRest}
 use Rattle.script_names.specs.Kept.{KeptSet}
@@ -75,7 +75,8 @@ pub record Outside : Type 0 where
   pub held : Option (List ℕ)
   pub write_faults : ℕ
 
--- so many statements were taken, each was answered, and the sink has gained exactly their pieces; the bytes that were taken besides are held
+-- so many statements were taken, each was answered, and the sink has gained exactly their pieces; the bytes that were taken besides are held, and
+-- all that were taken are one more than the limit of a script at the most
 pub record HasCome (before now : Outside) (kept : List KeptSet) (progress : Progress) (answered : ℕ) : Type 0 where
   pub answers : List Answer
   pub count : length answers ≡ answered
@@ -83,6 +84,7 @@ pub record HasCome (before now : Outside) (kept : List KeptSet) (progress : Prog
   pub keeps : kept ≡ kept_behind [] answers
   pub given : progress.given ≡ length (texts_of answers)
   pub taken : before.left ≡ prepend_known (texts_of answers ++ progress.held) now.left
+  pub most : progress.given + length progress.held ≤ script_bytes_limit + 1
   pub gained : Holds before.held now.held (pieces_of answers)
   pub read_faults : before.read_faults ≤ now.read_faults
   pub write_faults : before.write_faults ≤ now.write_faults

@@ -9,7 +9,7 @@ mod session;
 mod status;
 
 pub use ending::{Ending, Refusal};
-pub use laws::kept_loops_are_their_turns;
+pub use laws::{good_scripts_finish, kept_loops_are_their_turns, runs_have_one_ending};
 pub use lines::report;
 pub use program::run;
 pub use status::Status;
