@@ -4,3 +4,4 @@ pub mod Longest
 pub mod Few
 pub mod Places
 pub mod Naming
+pub mod Spelling
