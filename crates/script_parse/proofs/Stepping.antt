@@ -1,5 +1,5 @@
 -- From what was fetched, and what a piece answers, to what the reader says.
-use Rattle.std.proofs.Common.{◌≡◌, ℕ, ◌+◌, List, [], ◌++◌, length, take, drop, Bool, true, false, refl, sym, ap, ap₂, ◌∙◌, subst, inl, inr, append-nil, Option, None, Some}
+use Rattle.std.proofs.Common.{◌≡◌, ◌≤◌, ℕ, ◌+◌, List, [], ◌++◌, length, take, drop, Bool, true, false, refl, sym, ap, ap₂, ◌∙◌, subst, inl, inr, append-nil, Option, None, Some}
 use Rattle.std.specs.Prelude.{Result, Ok, Err, IfSome, unwrap_or}
 use Rattle.std.specs.Io.KnownBytes.{prepend_known, IsAtEnd}
 use Rattle.std.proofs.lemmas.List.{take-append-drop, take-append-le, length-take-le}
@@ -9,7 +9,7 @@ use Rattle.script_tokens.specs.Tokens.{PlacedToken}
 use Rattle.script_tokens.specs.Lexing.{tokens_of}
 use Rattle.script_pieces.specs.Cuts.{statement_length, piece_length}
 use Rattle.script_pieces.specs.Limits.{IsWithin}
-use Rattle.script_pieces.specs.Taking.{Progress, Takes, IsNeeded}
+use Rattle.script_pieces.specs.Taking.{Progress, Takes, IsNeeded, buffer_bytes}
 use Rattle.script_pieces.specs.Answers.{IsStatement, IsRest, IsFailure}
 use Rattle.script_pieces.specs.declared.errors.PieceError.{PieceError}
 use Rattle.script_pieces.specs.declared.errors.PieceError.TheVariants.{Read as FaultyRead, StatementBytes as LongStatement, ScriptBytes as LongScript}
@@ -100,7 +100,7 @@ says_rest base kept before fetched lb la fb fa (Err e) h rest is = record { take
 -- what was needed is told by the bytes held
 needed_bytes : (before fetched : Progress) (given : ℕ) (held : List ℕ) → fetched.held ≡ held → IsNeeded before fetched → IsNeeded before (record { given = given; held = held })
 needed_bytes before fetched given held e (inl same) = inl (sym e ∙ same)
-needed_bytes before fetched given held e (inr grew) = inr (record { earlier = grew.earlier; last = grew.last; grew = sym e ∙ grew.grew; was_open = grew.was_open })
+needed_bytes before fetched given held e (inr grew) = inr (record { earlier = grew.earlier; last = grew.last; grew = sym e ∙ grew.grew; was_open = grew.was_open; room = subst (λ xs. length xs ≤ buffer_bytes) e grew.room })
 
 -- a statement
 pub says_statement : (base : ℕ) (kept : List KeptSet) (before fetched : Progress) (after : State) (left_before left_after : Option (List ℕ)) (fb fa size : ℕ) (r : Result (Option DeclaredStatement) ScriptError) → IsFetched before fetched left_before left_after → IsStatement fetched size → GivesStatement kept (record { base = base; progress = fetched; live = false }) size after r → Says base kept before after.progress left_before left_after fb fa r

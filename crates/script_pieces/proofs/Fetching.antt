@@ -1,9 +1,9 @@
 -- How bytes are taken read by read.
-use Rattle.std.proofs.Common.{◌≡◌, ℕ, false, List, [], ◌++◌, length, refl, sym, ap, ◌∙◌, arith, Option, Some, None, append_assoc}
+use Rattle.std.proofs.Common.{◌≡◌, ◌≤◌, ℕ, false, List, [], ◌++◌, length, refl, sym, ap, ◌∙◌, arith, Option, Some, None, append_assoc}
 use Rattle.std.proofs.lemmas.List.{append-nil}
 use Rattle.std.specs.Io.KnownBytes.{prepend_known}
 use Rattle.script_pieces.specs.Cuts.{statement_length}
-use Rattle.script_pieces.specs.Taking.{Progress, IsOpen, Takes, GrewOpen}
+use Rattle.script_pieces.specs.Taking.{Progress, IsOpen, Takes, GrewOpen, buffer_bytes}
 use Rattle.script_pieces.proofs.Opening.{open_earlier}
 
 prepend_none : (known : Option (List ℕ)) → known ≡ prepend_known [] known
@@ -35,12 +35,13 @@ was_open a b before between first h = record {
 }
 
 -- a read behind bytes that did not tell how their piece ends
-pub needed_then : (a b c : Progress) (before between after : Option (List ℕ)) → Takes a b before between → IsOpen b → Takes b c between after → GrewOpen a c
-needed_then a b c before between after first h second = record {
+pub needed_then : (a b c : Progress) (before between after : Option (List ℕ)) → Takes a b before between → IsOpen b → Takes b c between after → length c.held ≤ buffer_bytes → GrewOpen a c
+needed_then a b c before between after first h second room = record {
   earlier = first.taken;
   last = second.taken;
   grew = second.held ∙ ap (λ xs. xs ++ second.taken) first.held;
   was_open = was_open a b before between first h;
+  room = room;
 }
 
 -- the bytes did not tell it before either

@@ -1,5 +1,5 @@
 -- How bytes move from a source to a reader of pieces. Own.
-use Rattle.std.specs.Prelude.{ℕ, ◌≡◌, ◌⊎◌, false, List, ◌++◌, length, Option, None}
+use Rattle.std.specs.Prelude.{ℕ, ◌≡◌, ◌≤◌, ◌⊎◌, false, List, ◌++◌, length, Option, None}
 use Rattle.std.specs.Io.KnownBytes.{prepend_known}
 use Rattle.script_pieces.specs.Cuts.{statement_length}
 use Rattle.script_pieces.specs.Limits.{IsWithin}
@@ -21,12 +21,17 @@ pub record Takes (before after : Progress) (left_before left_after : Option (Lis
   pub held : after.held ≡ before.held ++ taken
   pub left : left_before ≡ prepend_known taken left_after
 
--- the last bytes were taken behind bytes that did not tell how their piece ends
+-- how many bytes the buffer holds, so that one read gives no more
+abbrev pub buffer_bytes : ℕ
+buffer_bytes = 131072
+
+-- the last bytes, which are no more than the buffer holds, were taken behind bytes that did not tell how their piece ends
 pub record GrewOpen (before after : Progress) : Type 0 where
   pub earlier : List ℕ
   pub last : List ℕ
   pub grew : after.held ≡ (before.held ++ earlier) ++ last
   pub was_open : IsOpen (record { given = before.given; held = before.held ++ earlier })
+  pub room : length after.held ≤ buffer_bytes
 
 -- no byte was taken that was not needed
 abbrev pub IsNeeded : Progress → Progress → Type 0

@@ -9,7 +9,7 @@ ghost use Rattle.std.specs.Io.KnownBytes.{IsAtEnd};
 ghost use Rattle.lash_model.specs.Faults.{IsFaultCounted};
 ghost use Rattle.script_pieces.specs.Cuts.{statement_length, piece_length};
 ghost use Rattle.script_pieces.specs.Limits.{script_bytes_limit, IsRefused};
-ghost use Rattle.script_pieces.specs.Taking.{Progress, IsOpen, Takes, IsNeeded};
+ghost use Rattle.script_pieces.specs.Taking.{Progress, IsOpen, Takes, IsNeeded, buffer_bytes};
 ghost use Rattle.script_pieces.specs.Answers.{IsAhead, IsFailure, IsStatement};
 
 use crate::answers::Ahead;
@@ -95,7 +95,8 @@ impl Pieces {
         ensures kept { Takes self.old self.new (S.left source.old) (S.left source.new) }
         ensures ahead { IfOk result (λ ahead. IsAhead ahead self.new (S.left source.new)) }
         ensures cause { IfErr result (λ e. IsFailure e self.new (S.left source.new) (S.faults source.old) (S.faults source.new)) }
-        // Bytes are taken only behind bytes that do not tell how their piece ends; where those held tell it, the source is not read.
+        // The bytes held before the last ones were taken did not tell how their piece ends, and the last ones are no more than the buffer
+        // holds; where those held tell it, the source is not read.
         ensures needed { IsNeeded self.old self.new }
         ensures idle { (IsOpen self.old → ⊥) → source.new ≡ source.old }
         ensures most { self.new.given + length self.new.held ≤ script_bytes_limit + 1 }
@@ -154,6 +155,7 @@ impl Pieces {
         ensures taken { IfOk result (λ count. length self.new.held ≡ length self.old.held + count) }
         ensures ended { IfOk result (λ count. count ≡ 0 → (self.new ≡ self.old) × IsAtEnd (S.left source.new)) }
         ensures most { self.new.given + length self.new.held ≤ script_bytes_limit + 1 }
+        ensures room { length self.new.held ≤ buffer_bytes }
         ensures failed { OnErr result (self.new ≡ self.old) }
         ensures count { S.faults source.old ≤ S.faults source.new }
         ensures cause { OnErr result (IsFaultCounted (S.faults source.old) (S.faults source.new)) }

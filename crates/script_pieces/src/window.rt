@@ -85,6 +85,7 @@ impl Window {
         requires few { length (items self.old) ≤ 65536 }
         requires some { 0 < most }
         ensures bytes { Fills (items self.old) (items self.new) (S.left source.old) (S.left source.new) result most }
+        ensures room { length (items self.new) ≤ 131072 }
         ensures count { S.faults source.old ≤ S.faults source.new }
         ensures cause { OnErr result (IsFaultCounted (S.faults source.old) (S.faults source.new)) }
     {

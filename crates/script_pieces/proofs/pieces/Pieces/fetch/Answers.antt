@@ -19,7 +19,7 @@ reads-preserved g c =
     subst (λ (p : Progress). Takes p c.take_more.new.self (g.S.Source.left c.reads.source) (g.S.Source.left c.take_more.new.source)) c.told.ensures.kept c.take_more.ensures.kept in
     record {
       kept = takes_then c.args.self.now c.reads.self c.take_more.new.self _ _ _ c.reads.invariant.kept more;
-      needed = inr (needed_then c.args.self.now c.reads.self c.take_more.new.self _ _ _ c.reads.invariant.kept now_open more);
+      needed = inr (needed_then c.args.self.now c.reads.self c.take_more.new.self _ _ _ c.reads.invariant.kept now_open more c.take_more.ensures.room);
       idle = λ shut. absurd (shut (open_first c.args.self.now c.reads.self _ _ c.reads.invariant.kept now_open));
       counted = search rules;
     }
