@@ -101,7 +101,8 @@ pub record IsPiece (p : Progress) (left : Option (List ℕ)) (piece : List ℕ) 
   pub held : piece ≡ take (piece_length p.held) p.held
   pub ahead : IfSome (prepend_known p.held left) (λ bytes. piece ≡ take (piece_length bytes) bytes)
 
--- the first whole statement of the bytes ahead was given, and those behind it are still ahead; no byte was taken that was not needed
+-- the first whole statement of the bytes ahead was given, and those behind it are still ahead; the last bytes were taken behind such as
+-- did not tell how their piece ends
 pub record IsNext (base : ℕ) (kept : List KeptSet) (before after : Progress) (left_before left_after : Option (List ℕ)) (s : DeclaredStatement) : Type 0 where
   pub text : List ℕ
   pub taken : Takes before (record { given = before.given; held = text ++ after.held }) left_before left_after
@@ -135,7 +136,7 @@ IsCause base kept p left faults_before faults_after (Syntax place) = IsFirstRefu
 IsCause base kept p left faults_before faults_after (Name fault place) = IsFirstRefused base kept p left (Name fault place)
 IsCause base kept p left faults_before faults_after Memory = Unit
 
--- nothing was given, and no byte was taken that was not needed
+-- nothing was given, and the last bytes were taken behind such as did not tell how their piece ends
 pub record IsStopped (base : ℕ) (kept : List KeptSet) (before after : Progress) (left_before left_after : Option (List ℕ)) (faults_before faults_after : ℕ) (e : ScriptError) : Type 0 where
   pub taken : Takes before after left_before left_after
   pub needed : IsNeeded before after

@@ -33,6 +33,6 @@ pub record GrewOpen (before after : Progress) : Type 0 where
   pub was_open : IsOpen (record { given = before.given; held = before.held ++ earlier })
   pub room : length after.held ≤ buffer_bytes
 
--- no byte was taken that was not needed
+-- no byte was taken, or the bytes held before the last ones did not tell how their piece ends
 abbrev pub IsNeeded : Progress → Progress → Type 0
 IsNeeded before after = (after.held ≡ before.held) ⊎ GrewOpen before after
