@@ -36,6 +36,12 @@ impl<'a, A: Cells, B: Cells> Model for Pairs<'a, A, B> {
 fn write_pair(left: u32, right: u32, into: &mut Key) -> Result<(), Memory>
     ensures { OnOk result (into.new.items ≡ pair left right) }
 {
+    if into.len() == 2 {
+        let entries = into.as_mut_slice();
+        entries[0] = left;
+        entries[1] = right;
+        return Ok(());
+    }
     into.clear();
     match into.extend_from_slice(&[left, right]) {
         Ok(()) => Ok(()),
@@ -99,6 +105,14 @@ impl<A: Cells, B: Cells> Machine for Pairs<'_, A, B> {
         let left = self.left.step(key[0], letter);
         let right = self.right.step(key[1], letter);
         write_pair(left, right, into)
+    }
+
+    fn numbers(&self) -> u64 {
+        u64::from(self.left.states()) * u64::from(self.right.states())
+    }
+
+    fn radix(&self) -> u32 {
+        self.right.states()
     }
 
     fn weight(&self, _key: &Key) -> u64 {

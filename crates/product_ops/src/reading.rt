@@ -107,6 +107,11 @@ impl<'a, C: Cells> Reader<'a, C> {
         })
     }
 
+    /// The number of states.
+    pub fn states(&self) -> u32 {
+        self.table.ints()
+    }
+
     /// The root for a sign vector of the result.
     pub fn root(&self, sign: usize) -> u32
         requires { sign < 2 ^ self.now.tracks }

@@ -8,7 +8,7 @@ use Rattle.std.proofs.lemmas.List.{get_or_append_left, get_or-map, length-map, m
 use Rattle.std.proofs.lemmas.List.Elements.{All-push}
 use Rattle.std.proofs.lemmas.List.Quantifiers.{all_pairs_push}
 use Rattle.std.proofs.lemmas.List.Folds.{list_any_at}
-use Rattle.std.proofs.lemmas.Option.{slice_get_within}
+use Rattle.std.proofs.lemmas.Option.{slice_get_within, get_or_from_slice_get}
 use Rattle.graph_laws.specs.Paths.{Path, Before, AtMost, start_path, path_at}
 use Rattle.graph_laws.specs.Exploring.{Steps, led, after, IsPath, IsReached, cells_of, weigh, IsHeavy}
 use Rattle.step_tables.specs.Gathering.{same_list, met, Gathered, Placed}
@@ -24,6 +24,10 @@ weigh-push m (x ∷ ks) k = omega (arith, weigh-push m ks k)
 -- a key that the test does not find is another than each of the list
 not_in : (k : List ℕ) (ks : List (List ℕ)) → list_any (same_list k) ks ≡ false → (i : ℕ) (d : List ℕ) → i < length ks → slice_index_or ks i d ≡ k → ⊥
 not_in k ks none i d lt e = true≢false (sym (list_any_at (same_list k) ks i d lt ((bytes_decides k (slice_index_or ks i d)).1 (sym e))) ∙ none)
+
+-- a key that stands in the list is found by the test
+pub found_at : (k : List ℕ) (ks : List (List ℕ)) (p : ℕ) → slice_get ks p ≡ Some k → list_any (same_list k) ks ≡ true
+found_at k ks p e = list_any_at (same_list k) ks p [] (slice_get_within ks p k e) ((bytes_decides k (slice_index_or ks p [])).1 (sym (get_or_from_slice_get ks p k [] e)))
 
 pub slice_get-append : (ks other : List (List ℕ)) (p : ℕ) (y : List ℕ) → slice_get ks p ≡ Some y → slice_get (ks ++ other) p ≡ Some y
 slice_get-append [] other p y e = grind arith

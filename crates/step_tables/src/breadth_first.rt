@@ -13,6 +13,9 @@ use lash_io::Memory;
 use smallvec::SmallVec;
 use std::alloc::Global;
 
+/// The most numbers of keys by which positions are noted.
+const MOST_NUMBERS: u64 = 4_194_304;
+
 /// Meets a proper key, and gives its position. A key that is known is only looked up.
 fn place<M: Machine>(
     alloc: Global,
@@ -31,9 +34,15 @@ fn place<M: Machine>(
     ensures new { IfErr result (λ e. e ≡ ExploreError.Heavy → list_any (same_list key.now.items) found.old.keys ≡ false) }
     ensures over { IfErr result (λ e. e ≡ ExploreError.Heavy → limit < found.old.cells + cells_of (M.meaning machine.now) key.now.items) }
 {
-    match found.position(key) {
+    match found.noted(key) {
         Some(place) => return Ok(place as u32),
         None => {}
+    }
+    if !found.is_noting() {
+        match found.position(key) {
+            Some(place) => return Ok(place as u32),
+            None => {}
+        }
     }
     let copy = match SmallVec::from_slice(alloc, key.as_slice()) {
         Ok(copy) => copy,
@@ -196,6 +205,21 @@ fn follow_all<M: Machine>(
     Ok(())
 }
 
+/// A search that has found nothing. It notes positions by numbers where these are few.
+fn searching<M: Machine>(alloc: Global, machine: &M) -> Result<Search, Memory>
+    ensures { IfOk result (λ t. t ≡ record { width = (M.meaning machine.now).width; keys = []; cells = 0; starts = []; rows = [] }) }
+{
+    let numbers = machine.numbers();
+    if 0 < numbers && numbers <= MOST_NUMBERS {
+        match Found::noting(alloc, machine.radix(), numbers as usize) {
+            Ok(found) => Ok(Search::of(alloc, machine.letters(), found)),
+            Err(Memory) => Err(Memory),
+        }
+    } else {
+        Ok(Search::of(alloc, machine.letters(), Found::new(alloc)))
+    }
+}
+
 /// Explores a machine: finds exactly the keys that words lead to from its starts, each once, in the order of their least paths:
 /// shorter words first, then lower starts, then letters. The cells are the sum, over those keys, of the number of letters, one, and
 /// the key's weight; Heavy exactly where that sum passes the limit, which is at most 16,777,216. Memory may be wanting at any time.
@@ -210,7 +234,10 @@ pub fn explore<M: Machine>(
     ensures heavy { IfErr result (λ e. e ≡ ExploreError.Heavy → IsHeavy (M.meaning machine.old) limit) }
     ensures kept { M.meaning machine.new ≡ M.meaning machine.old }
 {
-    let mut table = Search::new(alloc, machine.letters());
+    let mut table = match searching(alloc, &*machine) {
+        Ok(table) => table,
+        Err(Memory) => return Err(ExploreError::Memory),
+    };
     let mut into: Key = SmallVec::new(alloc);
     match begin_all(alloc, machine, &mut table, &mut into, limit) {
         Ok(()) => {}

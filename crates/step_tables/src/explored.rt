@@ -27,13 +27,13 @@ impl Model for Search {
 }
 
 impl Search {
-    /// A search over so many letters that has found nothing.
-    pub fn new(alloc: Global, letters: u32) -> Self
-        ensures { result ≡ record { width = letters; keys = []; cells = 0; starts = []; rows = [] } }
+    /// A search over so many letters that goes on from keys without starts and rows.
+    pub fn of(alloc: Global, letters: u32, found: Found) -> Self
+        ensures { result ≡ record { width = letters; keys = found.keys; cells = found.cells; starts = []; rows = [] } }
     {
         Search {
             letters,
-            found: Found::new(alloc),
+            found,
             starts: Vec::new(alloc),
             rows: Vec::new(alloc),
         }

@@ -39,6 +39,13 @@ pub trait Machine {
         ensures proper { OnOk result (IsTrue ((meaning self.old).is_proper into.new.items)) }
         ensures kept { meaning self.new ≡ meaning self.old };
 
+    /// How many numbers keys have, or 0: that of one entry is the entry, and that of two the first times `radix` and the second. Where
+    /// there are few, a key that was met is found by its number in place of its hash. It steers speed alone.
+    fn numbers(&self) -> u64;
+
+    /// The radix of the first of two entries.
+    fn radix(&self) -> u32;
+
     /// The weight of a proper key.
     fn weight(&self, key: &Key) -> u64
         requires { IsTrue ((meaning self.now).is_proper key.now.items) }

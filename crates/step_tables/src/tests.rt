@@ -67,6 +67,14 @@ impl Machine for Pairs {
         write_pair(left, right, into)
     }
 
+    fn numbers(&self) -> u64 {
+        10
+    }
+
+    fn radix(&self) -> u32 {
+        2
+    }
+
     fn weight(&self, _key: &Key) -> u64 {
         2
     }

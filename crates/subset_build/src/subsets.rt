@@ -146,6 +146,14 @@ impl<C: Cells> Machine for Subsets<'_, C> {
         Ok(())
     }
 
+    fn numbers(&self) -> u64 {
+        0
+    }
+
+    fn radix(&self) -> u32 {
+        0
+    }
+
     fn weight(&self, key: &Key) -> u64 {
         key.len() as u64
     }

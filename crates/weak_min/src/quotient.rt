@@ -41,6 +41,10 @@ impl<'a, C: Cells> Model for Quotient<'a, C> {
 fn write_class(class: u32, into: &mut Key) -> Result<(), Memory>
     ensures { OnOk result (into.new.items ≡ class ∷ []) }
 {
+    if into.len() == 1 {
+        into.as_mut_slice()[0] = class;
+        return Ok(());
+    }
     into.clear();
     match into.extend_from_slice(&[class]) {
         Ok(()) => Ok(()),
@@ -109,6 +113,14 @@ impl<C: Cells> Machine for Quotient<'_, C> {
 
     fn step(&mut self, from: &Key, letter: u32, into: &mut Key) -> Result<(), Memory> {
         write_class(self.target(from.as_slice()[0], letter), into)
+    }
+
+    fn numbers(&self) -> u64 {
+        u64::from(self.table.ints())
+    }
+
+    fn radix(&self) -> u32 {
+        0
     }
 
     fn weight(&self, _key: &Key) -> u64 {

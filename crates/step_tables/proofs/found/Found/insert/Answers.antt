@@ -2,7 +2,7 @@ use Rattle.std.proofs.Common.{◌≡◌, ◌+◌, true, false, map, rules, refl,
 use Rattle.std.specs.List.{list_any}
 use Rattle.step_tables.specs.Gathering.{same_list}
 use Rattle.step_tables.proofs.Keys.{map-insert_key, stored_key, list_any-map, fresh, seen}
-use Rattle.step_tables.proofs.found.Found.meet.Goals as goal
+use Rattle.step_tables.proofs.found.Found.insert.Goals as goal
 
 pub returns-else-self-limit-clause-keys : goal.returns-else-self-limit-clause-keys
 returns-else-self-limit-clause-keys c = rw (c.in-Ok.ensures.keys, ← c.self.view_is) (map-insert_key (λ k. k.items) c.self.inside.keys.keys c.args.key)
