@@ -3,5 +3,6 @@ pub mod Searching
 pub mod Summing
 pub mod Sorting
 pub mod FillingSteps
+pub mod Sweeping
 pub mod Finishing
 pub mod Excluding

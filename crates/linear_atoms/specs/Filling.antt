@@ -1,5 +1,5 @@
 -- Tables of atoms as far as they are filled.
-use Rattle.std.specs.Prelude.{ℕ, ◌+◌, ◌*◌, ◌^◌, ◌<◌, ◌≤◌, ◌≡◌, List, [], length, All, ℤ, pos, neg_ℤ, ◌+ℤ◌, ◌*ℤ◌, ◌<ℤ◌}
+use Rattle.std.specs.Prelude.{ℕ, ◌+◌, ◌-◌, ◌*◌, ◌^◌, ◌<◌, ◌≤◌, ◌≡◌, List, [], length, All, ℤ, pos, neg_ℤ, ◌+ℤ◌, ◌*ℤ◌, ◌<ℤ◌}
 use Rattle.std.specs.List.{slice_index_or, AllPairs}
 use Rattle.lash_model.specs.Formulas.{Linear, IsInside}
 use Rattle.lash_model.specs.Tables.{Table, IsTable}
@@ -10,6 +10,11 @@ use Rattle.linear_atoms.specs.Closing.{entry, IsSmall, IsSmallTotal}
 -- the state that a letter of the total leads to
 abbrev pub target_of : ℕ → List ℤ → ℕ → ℤ → ℕ
 target_of base ts count total = below ts ((pos base *ℤ representative ts count) +ℤ total)
+
+-- there are so many thresholds, of which the last is below the value
+pub record IsCountedUpTo (ts : List ℤ) (value : ℤ) (count : ℕ) : Type 0 where
+  pub within : count ≤ length ts
+  pub last : 0 < count → entry ts (count - 1) <ℤ value
 
 -- the first entries of the rows are filled
 pub record AreRows (base : ℕ) (totals ts : List ℤ) (filled : ℕ) (rows : List ℕ) : Type 0 where

@@ -1,12 +1,13 @@
 //! Filling the table of an atom from its rising thresholds and the totals of its letters.
 
 ghost use Rattle.std.specs.Prelude.{◌≡◌, ℕ, ℤ, pos, ◌+◌, ◌*◌, ◌^◌, ◌<◌, ◌≤◌, neg_ℤ, List, length, unsigned_abs};
+ghost use Rattle.lash_model.specs.Tables.{letters, ints};
 ghost use Rattle.lash_model.specs.Thresholds.{passes, below, representative, one_if, sign_total};
 ghost use Rattle.linear_atoms.specs.Closing.{entry};
 ghost use Rattle.linear_atoms.specs.Kinds.{comparison_of};
 ghost use Rattle.linear_atoms.specs.Filling.{target_of, IsPlan, IsFilling};
 
-use crate::counts::{count_below, next_value, value_of_count};
+use crate::counts::{count_below, count_from, next_value, value_of_count};
 use crate::kind::AtomKind;
 use crate::totals::digits_total;
 use digit_codes::Base;
@@ -52,8 +53,8 @@ fn passes_bound(kind: AtomKind, value: &i128, bound: &i128) -> bool
     }
 }
 
-/// The state that a letter leads to.
-fn target(plan: &Plan, state: u32, letter: u32) -> u32
+/// The state that a letter leads to. It is looked for from another state on.
+fn target(plan: &Plan, state: u32, letter: u32, from: u32) -> u32
     requires plan { IsPlan plan.now.base plan.now.tracks plan.now.atom.now plan.now.totals.now plan.now.thresholds.now }
     requires letter { letter < length plan.now.totals.now }
     ensures value { result ≡ target_of plan.now.base plan.now.thresholds.now state (entry plan.now.totals.now letter) }
@@ -61,7 +62,7 @@ fn target(plan: &Plan, state: u32, letter: u32) -> u32
 {
     let value = value_of_count(plan.thresholds, state);
     let next = next_value(plan.base.radix(), &value, &plan.totals[letter as usize]);
-    count_below(plan.thresholds, &next)
+    count_from(plan.thresholds, &next, from)
 }
 
 /// The root of a sign vector.
@@ -100,6 +101,18 @@ fn fill_roots(plan: &Plan, table: &mut Table<Plain>)
     }
 }
 
+/// A state at or before the one that a letter leads to: greater values have more thresholds below them, so it is that of the state before.
+fn lower_target(table: &Table<Plain>, state: u32, letter: u32) -> u32
+    requires state { state < ints table.now.table }
+    requires letter { letter < letters table.now.table }
+{
+    if state == 0 {
+        0
+    } else {
+        table.int_step(state - 1, letter)
+    }
+}
+
 /// Fills the row of a state.
 fn fill_row(plan: &Plan, table: &mut Table<Plain>, state: u32)
     requires plan { IsPlan plan.now.base plan.now.tracks plan.now.atom.now plan.now.totals.now plan.now.thresholds.now }
@@ -108,7 +121,8 @@ fn fill_row(plan: &Plan, table: &mut Table<Plain>, state: u32)
     ensures filled { IsFilling (comparison_of plan.now.kind) plan.now.atom.now plan.now.base plan.now.tracks plan.now.totals.now plan.now.thresholds.now (2 ^ plan.now.tracks) ((state + 1) * length plan.now.totals.now) 0 table.new }
 {
     for letter in 0..plan.totals.len() as u32 {
-        table.set_int(state, letter, target(plan, state, letter));
+        let from = lower_target(&*table, state, letter);
+        table.set_int(state, letter, target(plan, state, letter, from));
     }
 }
 
