@@ -1,5 +1,6 @@
 -- Tables as they are kept: a table, and of each of its five lists the bound that its cells stay below.
-use Rattle.std.specs.Prelude.{ℕ, ◌*◌, ◌^◌, ◌≤◌, ◌≡◌, length, replicate}
+use Rattle.std.specs.Prelude.{ℕ, ◌*◌, ◌^◌, ◌≤◌, ◌≡◌, [], length, replicate}
+use Rattle.graph_laws.specs.Exploring.{KeyTable}
 use Rattle.lash_model.specs.Tables.{Table, IsTable}
 
 pub record Bounds : Type 0 where
@@ -31,6 +32,18 @@ zeros base tracks ints fracs = record {
   outs = replicate ints 0;
   frac_rows = replicate (fracs * base ^ tracks) 0;
   colours = replicate fracs 0;
+}
+
+-- the diagram of what was explored, with outputs of zeros: base, tracks, what was explored
+abbrev pub laid : ℕ → ℕ → KeyTable → Table
+laid base tracks k = record {
+  base = base;
+  tracks = tracks;
+  roots = k.starts;
+  rows = k.rows;
+  outs = replicate (length k.keys) 0;
+  frac_rows = [];
+  colours = [];
 }
 
 -- the three counts are those of the table, which is in range, and cells hold both colours and both answers

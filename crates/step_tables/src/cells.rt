@@ -1,6 +1,6 @@
 //! Lists of small numbers, in cells.
 
-ghost use Rattle.std.specs.Prelude.{◌≡◌, ℕ, ◌<◌, ◌≤◌, ◌^◌, List, length, slice_index, slice_set, replicate, IfOk};
+ghost use Rattle.std.specs.Prelude.{◌≡◌, ℕ, ◌<◌, ◌≤◌, ◌^◌, List, length, slice_index, slice_set, replicate, IfOk, IfSome};
 
 use lash_io::Memory;
 use std::alloc::Global;
@@ -24,6 +24,10 @@ pub trait Cells {
         requires { at < length (items self.now) }
         ensures value { result ≡ slice_index (items self.now) at }
         ensures below { result < limit self.now };
+
+    /// The list itself, where the numbers stand in it as they are.
+    fn lent(&self) -> Option<&[u32]>
+        ensures { IfSome result (λ s. s.now ≡ items self.now) };
 
     fn set(&mut self, at: usize, value: u32)
         requires place { at < length (items self.old) }
@@ -54,6 +58,16 @@ impl Plain {
             Err(_) => Err(Memory),
         }
     }
+
+    /// A copy of a list.
+    pub fn copied(alloc: Global, list: &[u32]) -> Result<Plain, Memory>
+        ensures { IfOk result (λ p. p ≡ list.now) }
+    {
+        match Vec::from_slice(alloc, list) {
+            Ok(cells) => Ok(Plain { cells }),
+            Err(_) => Err(Memory),
+        }
+    }
 }
 
 impl Cells for Plain {
@@ -71,6 +85,10 @@ impl Cells for Plain {
 
     fn get(&self, at: usize) -> u32 {
         self.cells[at]
+    }
+
+    fn lent(&self) -> Option<&[u32]> {
+        Some(self.cells.as_slice())
     }
 
     fn set(&mut self, at: usize, value: u32) {

@@ -117,7 +117,8 @@ impl Explored {
 
     /// The rows of positions, one entry for each letter, one row behind another.
     pub fn rows(&self) -> &[u32]
-        ensures { result.now ≡ self.now.rows }
+        ensures value { result.now ≡ self.now.rows }
+        ensures linked { IsLinked self.now }
     {
         self.search.rows.as_slice()
     }

@@ -1,16 +1,16 @@
 //! Tables of automata on digits: for each state and letter a target, in flat lists of cells. Reading or changing an entry takes
 //! one access. A table without fraction states is a Number Decision Diagram, any other a Real Vector Automaton.
 
-ghost use Rattle.std.specs.Prelude.{◌≡◌, ℕ, ◌+◌, ◌*◌, ◌<◌, ◌≤◌, ◌^◌, List, All, length, slice_index, slice_set, nat_eq, if◌then◌else◌, IfOk};
+ghost use Rattle.std.specs.Prelude.{◌≡◌, ℕ, ◌+◌, ◌*◌, ◌<◌, ◌≤◌, ◌^◌, List, All, length, slice_index, slice_set, nat_eq, if◌then◌else◌, IfOk, IfSome};
 ghost use Rattle.graph_laws.specs.Walks.{go, copies};
 ghost use Rattle.lash_model.specs.Acceptance.{accepts_word, accepts_lasso};
 ghost use Rattle.lash_model.specs.Lassos.{IsLasso};
 ghost use Rattle.lash_model.specs.Tables.{IsShape, IsTable, IsDiagram, letters, ints, fracs, out_bound};
 ghost use Rattle.digit_codes.specs.Reading.{lasso_of};
-ghost use Rattle.step_tables.specs.Kept.{plain, zeros};
+ghost use Rattle.step_tables.specs.Kept.{plain, zeros, laid};
 
 use crate::entries::entry_at;
-use crate::{Cells, Plain};
+use crate::{Cells, Explored, Plain};
 use digit_codes::{Base, Lasso};
 use lash_io::Memory;
 use std::alloc::Global;
@@ -69,6 +69,41 @@ impl Table<Plain> {
             letters,
             ints,
             fracs,
+            roots,
+            rows,
+            outs,
+            frac_rows,
+            colours,
+        })
+    }
+
+    /// The diagram of what was explored, in which all outputs are 0: a root for each start, a state for each key, and the rows as they
+    /// were found.
+    pub fn of_explored(
+        alloc: Global,
+        base: Base,
+        tracks: u32,
+        found: &Explored,
+    ) -> Result<Table<Plain>, Memory>
+        requires shape { IsShape base tracks (length found.now.keys) 0 }
+        requires starts { length found.now.starts ≡ 2 ^ tracks }
+        requires width { found.now.width ≡ base ^ tracks }
+        ensures laid { IfOk result (λ t. t ≡ plain (laid base tracks found.now)) }
+        ensures table { IfOk result (λ t. IsTable t.table) }
+    {
+        let letters = base.radix().pow(tracks);
+        let ints = found.len();
+        let roots = Plain::copied(alloc, found.starts())?;
+        let rows = Plain::copied(alloc, found.rows())?;
+        let outs = Plain::new(alloc, ints as usize)?;
+        let frac_rows = Plain::new(alloc, 0)?;
+        let colours = Plain::new(alloc, 0)?;
+        Ok(Table {
+            base,
+            tracks,
+            letters,
+            ints,
+            fracs: 0,
             roots,
             rows,
             outs,
@@ -142,6 +177,20 @@ impl<C: Cells> Table<C> {
         ensures below { result < out_bound (fracs self.now.table) }
     {
         self.outs.get(state as usize)
+    }
+
+    /// The rows of the integer states, where they stand as they are.
+    pub fn lent_rows(&self) -> Option<&[u32]>
+        ensures { IfSome result (λ s. s.now ≡ self.now.table.rows) }
+    {
+        self.rows.lent()
+    }
+
+    /// The outputs of the integer states, where they stand as they are.
+    pub fn lent_outs(&self) -> Option<&[u32]>
+        ensures { IfSome result (λ s. s.now ≡ self.now.table.outs) }
+    {
+        self.outs.lent()
     }
 
     /// The fraction state behind a letter.

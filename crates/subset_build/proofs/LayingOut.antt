@@ -11,7 +11,7 @@ use Rattle.std.proofs.lemmas.List.{length-replicate}
 use mathlib.Core.Logic.{inl, inr}
 use Rattle.graph_laws.specs.Exploring.{Steps, KeyTable, list_at, weigh, IsExplored}
 use Rattle.lash_model.specs.Tables.{Table, letters, IsTable, IsShape}
-use Rattle.step_tables.specs.Kept.{Kept, plain, zeros}
+use Rattle.step_tables.specs.Kept.{Kept, plain, laid}
 use Rattle.canonical_laws.proofs.Diagrams.{place_within, same_lists}
 use Rattle.subset_build.specs.Projection.{kept, AreStartSets, subsets, is_rising_in, out_of_set, IsSubsetTable}
 use Rattle.subset_build.specs.Filling.{SameUpTo, IsBlankFor, IsLaid, IsFilling}
@@ -40,30 +40,8 @@ one_more xs f n to each inside is p lt = elim (cases_lt p n) [
     written : p ≡ n → slice_index (slice_set xs n to) p ≡ f p
     written e = ap (λ i. slice_index (slice_set xs n to) i) e ∙ get_or-set_same xs n to 0 inside ∙ is ∙ ap f (sym e)
 
--- one root more
-pub laid_root : (base tracks : ℕ) (k : KeyTable) (n to : ℕ) (u : Kept) → IsLaid base tracks k n 0 u → IsTable (record u.table { roots = slice_set u.table.roots n to }) → n < 2 ^ tracks → to ≡ slice_index k.starts n → IsLaid base tracks k (n + 1) 0 (record u { table = record u.table { roots = slice_set u.table.roots n to } })
-laid_root base tracks k n to u f table lt is = record {
-  shape = record { base_is = f.shape.base_is; tracks_are = f.shape.tracks_are; diagram = f.shape.diagram; states = f.shape.states; table = table; starts = f.shape.starts; width = f.shape.width; bounds = f.shape.bounds };
-  roots_filled = record { each = one_more u.table.roots (slice_index k.starts) n to f.roots_filled.each (subst (λ m. n < m) (sym (f.shape.table.roots_count ∙ ap (λ m. 2 ^ m) f.shape.tracks_are)) lt) is };
-  rows_filled = f.rows_filled;
-}
-
 rows_are : (base tracks : ℕ) (k : KeyTable) (u : Kept) → IsBlankFor base tracks k u → length u.table.rows ≡ length k.keys * k.width
 rows_are base tracks k u s = s.table.rows_count ∙ ap (λ n. n * letters u.table) s.states ∙ ap (λ w. length k.keys * w) (widths base tracks k u s)
-
--- one entry of a row more
-pub laid_entry : (base tracks : ℕ) (k : KeyTable) (roots i l to : ℕ) (u : Kept) → IsLaid base tracks k roots (i * k.width + l) u → IsTable (record u.table { rows = slice_set u.table.rows (i * letters u.table + l) to }) → i < length k.keys → l < k.width → to ≡ slice_index k.rows (i * k.width + l) → IsLaid base tracks k roots (i * k.width + (l + 1)) (record u { table = record u.table { rows = slice_set u.table.rows (i * letters u.table + l) to } })
-laid_entry base tracks k roots i l to u f table i_in l_in is = record {
-  shape = record { base_is = f.shape.base_is; tracks_are = f.shape.tracks_are; diagram = f.shape.diagram; states = f.shape.states; table = table; starts = f.shape.starts; width = f.shape.width; bounds = f.shape.bounds };
-  roots_filled = f.roots_filled;
-  rows_filled = subst (λ w. SameUpTo (i * k.width + (l + 1)) (slice_set u.table.rows (i * w + l) to) k.rows) (sym (widths base tracks k u f.shape)) filled;
-}
-  where
-    within : i * k.width + l < length u.table.rows
-    within = subst (λ n. i * k.width + l < n) (sym (rows_are base tracks k u f.shape)) (place_within i (length k.keys) k.width l i_in l_in)
-
-    filled : SameUpTo (i * k.width + (l + 1)) (slice_set u.table.rows (i * k.width + l) to) k.rows
-    filled = record { each = λ p lt. one_more u.table.rows (slice_index k.rows) (i * k.width + l) to f.rows_filled.each within is p (omega (arith, lt)) }
 
 -- one output more
 pub filled_out : (base tracks : ℕ) (k : KeyTable) (out : ℕ → ℕ) (roots rows n to : ℕ) (u : Kept) → IsFilling base tracks k out roots rows n u → IsTable (record u.table { outs = slice_set u.table.outs n to }) → n < length k.keys → to ≡ out n → IsFilling base tracks k out roots rows (n + 1) (record u { table = record u.table { outs = slice_set u.table.outs n to } })
@@ -76,21 +54,21 @@ filled_out base tracks k out roots rows n to u f table lt is = record {
   outs_filled = record { each = one_more u.table.outs out n to f.outs_filled.each (subst (λ m. n < m) (sym f.laid.shape.states) lt) is };
 }
 
--- of a blank table nothing is filled
-pub blank_laid : (k : KeyTable) (base tracks states : ℕ) (u : Kept) → u ≡ plain (zeros base tracks states 0) → states ≡ length k.keys → IsTable u.table → length k.starts ≡ 2 ^ tracks → k.width ≡ base ^ tracks → IsLaid base tracks k 0 0 u
-blank_laid k base tracks states u e s table starts width = record {
+-- of a table that is laid out all roots and rows are filled
+pub all_laid : (k : KeyTable) (base tracks : ℕ) (u : Kept) → u ≡ plain (laid base tracks k) → IsTable u.table → length k.starts ≡ 2 ^ tracks → k.width ≡ base ^ tracks → IsLaid base tracks k (2 ^ tracks) (length k.keys * k.width) u
+all_laid k base tracks u e table starts width = record {
   shape = record {
     base_is = ap (λ (v : Kept). v.table.base) e;
     tracks_are = ap (λ (v : Kept). v.table.tracks) e;
     diagram = ap (λ (v : Kept). v.table.colours) e;
-    states = ap (λ (v : Kept). length v.table.outs) e ∙ length-replicate states 0 ∙ s;
+    states = ap (λ (v : Kept). length v.table.outs) e ∙ length-replicate (length k.keys) 0;
     table = table;
     starts = starts;
     width = width;
     bounds = ap (λ (v : Kept). v.bounds) e;
   };
-  roots_filled = record { each = λ p lt. absurd (omega (arith, lt)) };
-  rows_filled = record { each = λ p lt. absurd (omega (arith, lt)) };
+  roots_filled = record { each = λ p lt. ap (λ (v : Kept). slice_index v.table.roots p) e };
+  rows_filled = record { each = λ p lt. ap (λ (v : Kept). slice_index v.table.rows p) e };
 }
 
 -- of a laid table no output is filled

@@ -8,7 +8,7 @@ use Rattle.std.proofs.lemmas.List.{length-replicate}
 use mathlib.Core.Logic.{inl, inr}
 use Rattle.graph_laws.specs.Exploring.{KeyTable, list_at}
 use Rattle.lash_model.specs.Tables.{Table, letters, IsTable}
-use Rattle.step_tables.specs.Kept.{Kept, plain, zeros}
+use Rattle.step_tables.specs.Kept.{Kept, plain, laid}
 use Rattle.canonical_laws.proofs.Diagrams.{place_within}
 use Rattle.weak_min.specs.Filling.{SameUpTo, IsBlankFor, IsFilling}
 
@@ -33,35 +33,8 @@ one_more xs f n to each inside is p lt = elim (cases_lt p n) [
     written : p ≡ n → slice_index (slice_set xs n to) p ≡ f p
     written e = ap (λ i. slice_index (slice_set xs n to) i) e ∙ get_or-set_same xs n to 0 inside ∙ is ∙ ap f (sym e)
 
--- one root more
-pub filling_root : (source : Table) (k : KeyTable) (n to : ℕ) (u : Kept) → IsFilling source k n 0 0 u → IsTable (record u.table { roots = slice_set u.table.roots n to }) → n < 2 ^ source.tracks → to ≡ slice_index k.starts n → IsFilling source k (n + 1) 0 0 (record u { table = record u.table { roots = slice_set u.table.roots n to } })
-filling_root source k n to u f table lt is = record {
-  shape = record { base_is = f.shape.base_is; tracks_are = f.shape.tracks_are; diagram = f.shape.diagram; states = f.shape.states; table = table; starts = f.shape.starts; width = f.shape.width; wide_roots = f.shape.wide_roots; wide_rows = f.shape.wide_rows; wide_outs = f.shape.wide_outs };
-  roots_filled = record { each = one_more u.table.roots (slice_index k.starts) n to f.roots_filled.each (subst (λ m. n < m) (sym (f.shape.table.roots_count ∙ ap (λ m. 2 ^ m) f.shape.tracks_are)) lt) is };
-  rows_filled = f.rows_filled;
-  outs_filled = f.outs_filled;
-}
-
 pub widths : (source : Table) (k : KeyTable) (u : Kept) → IsBlankFor source.base source.tracks k u → letters u.table ≡ k.width
 widths source k u s = ap (λ b. b ^ u.table.tracks) s.base_is ∙ ap (λ n. source.base ^ n) s.tracks_are ∙ sym s.width
-
--- one entry of a row more
-pub filling_row : (source : Table) (k : KeyTable) (roots i l to : ℕ) (u : Kept) → IsFilling source k roots (i * k.width + l) 0 u → IsTable (record u.table { rows = slice_set u.table.rows (i * letters u.table + l) to }) → i < length k.keys → l < k.width → to ≡ slice_index k.rows (i * k.width + l) → IsFilling source k roots (i * k.width + (l + 1)) 0 (record u { table = record u.table { rows = slice_set u.table.rows (i * letters u.table + l) to } })
-filling_row source k roots i l to u f table i_in l_in is = record {
-  shape = record { base_is = f.shape.base_is; tracks_are = f.shape.tracks_are; diagram = f.shape.diagram; states = f.shape.states; table = table; starts = f.shape.starts; width = f.shape.width; wide_roots = f.shape.wide_roots; wide_rows = f.shape.wide_rows; wide_outs = f.shape.wide_outs };
-  roots_filled = f.roots_filled;
-  rows_filled = subst (λ w. SameUpTo (i * k.width + (l + 1)) (slice_set u.table.rows (i * w + l) to) k.rows) (sym (widths source k u f.shape)) filled;
-  outs_filled = f.outs_filled;
-}
-  where
-    rows_are : length u.table.rows ≡ length k.keys * k.width
-    rows_are = f.shape.table.rows_count ∙ ap (λ n. n * letters u.table) f.shape.states ∙ ap (λ w. length k.keys * w) (widths source k u f.shape)
-
-    within : i * k.width + l < length u.table.rows
-    within = subst (λ n. i * k.width + l < n) (sym rows_are) (place_within i (length k.keys) k.width l i_in l_in)
-
-    filled : SameUpTo (i * k.width + (l + 1)) (slice_set u.table.rows (i * k.width + l) to) k.rows
-    filled = record { each = λ p lt. one_more u.table.rows (slice_index k.rows) (i * k.width + l) to f.rows_filled.each within is p (omega (arith, lt)) }
 
 -- one output more
 pub filling_out : (source : Table) (k : KeyTable) (roots rows n to : ℕ) (u : Kept) → IsFilling source k roots rows n u → IsTable (record u.table { outs = slice_set u.table.outs n to }) → length (slice_set u.table.outs n to) ≡ length u.table.outs → n < length k.keys → to ≡ slice_index source.outs (slice_index (list_at k.keys n) 0) → IsFilling source k roots rows (n + 1) (record u { table = record u.table { outs = slice_set u.table.outs n to } })
@@ -72,14 +45,14 @@ filling_out source k roots rows n to u f table same lt is = record {
   outs_filled = record { each = one_more u.table.outs (λ i. slice_index source.outs (slice_index (list_at k.keys i) 0)) n to f.outs_filled.each (subst (λ m. n < m) (sym f.shape.states) lt) is };
 }
 
--- of a blank table nothing is filled
-pub blank_filling : (source : Table) (k : KeyTable) (base tracks states : ℕ) (u : Kept) → u ≡ plain (zeros base tracks states 0) → base ≡ source.base → tracks ≡ source.tracks → states ≡ length k.keys → IsTable u.table → length k.starts ≡ 2 ^ source.tracks → k.width ≡ letters source → IsFilling source k 0 0 0 u
-blank_filling source k base tracks states u e b n s table starts width = record {
+-- of a table that is laid out all roots and rows are filled
+pub laid_filling : (source : Table) (k : KeyTable) (base tracks : ℕ) (u : Kept) → u ≡ plain (laid base tracks k) → base ≡ source.base → tracks ≡ source.tracks → IsTable u.table → length k.starts ≡ 2 ^ source.tracks → k.width ≡ letters source → IsFilling source k (2 ^ source.tracks) (length k.keys * k.width) 0 u
+laid_filling source k base tracks u e b n table starts width = record {
   shape = record {
     base_is = ap (λ (v : Kept). v.table.base) e ∙ b;
     tracks_are = ap (λ (v : Kept). v.table.tracks) e ∙ n;
     diagram = ap (λ (v : Kept). v.table.colours) e;
-    states = ap (λ (v : Kept). length v.table.outs) e ∙ length-replicate states 0 ∙ s;
+    states = ap (λ (v : Kept). length v.table.outs) e ∙ length-replicate (length k.keys) 0;
     table = table;
     starts = starts;
     width = width;
@@ -87,7 +60,7 @@ blank_filling source k base tracks states u e b n s table starts width = record 
     wide_rows = ap (λ (v : Kept). v.bounds.rows) e;
     wide_outs = ap (λ (v : Kept). v.bounds.outs) e;
   };
-  roots_filled = record { each = λ p lt. absurd (omega (arith, lt)) };
-  rows_filled = record { each = λ p lt. absurd (omega (arith, lt)) };
+  roots_filled = record { each = λ p lt. ap (λ (v : Kept). slice_index v.table.roots p) e };
+  rows_filled = record { each = λ p lt. ap (λ (v : Kept). slice_index v.table.rows p) e };
   outs_filled = record { each = λ p lt. absurd (omega (arith, lt)) };
 }

@@ -1,7 +1,8 @@
 //! Tables that are canonical: equal exactly where they accept the same words.
 
 ghost use Rattle.std.specs.Prelude.{◌≡◌, IfOk};
-ghost use Rattle.lash_model.specs.Tables.{IsDiagram};
+ghost use Rattle.lash_model.specs.Tables.{letters, IsDiagram};
+ghost use Rattle.canonical_laws.specs.Behaviour.{AreClasses};
 ghost use Rattle.canonical_laws.specs.Canonical.{IsCanonical, AcceptSameWords};
 
 use crate::copies::{outs_of, rows_of};
@@ -55,14 +56,15 @@ impl Canon {
     }
 }
 
-/// The canonical table of a diagram: of the same base and number of tracks, it accepts the same words. Fails only for want of memory.
-pub fn canonical<C: Cells>(alloc: Global, table: &Table<C>) -> Result<Canon, Memory>
+/// The classes of the states that behave alike. The rows are copied only where they do not stand as they are.
+fn classes_of<C: Cells>(alloc: Global, table: &Table<C>) -> Result<Vec<u32>, Memory>
     requires { IsDiagram table.now.table }
-    ensures canonical { IfOk result (λ u. IsCanonical u.table) }
-    ensures base { IfOk result (λ u. u.table.base ≡ table.now.table.base) }
-    ensures tracks { IfOk result (λ u. u.table.tracks ≡ table.now.table.tracks) }
-    ensures words { IfOk result (λ u. AcceptSameWords table.now.table u.table) }
+    ensures { IfOk result (λ c. AreClasses table.now.table.rows (letters table.now.table) table.now.table.outs c.items) }
 {
+    match (table.lent_rows(), table.lent_outs()) {
+        (Some(rows), Some(outs)) => return classes(alloc, rows, table.letters(), outs),
+        _ => {}
+    }
     let rows = match rows_of(alloc, table) {
         Ok(rows) => rows,
         Err(Memory) => return Err(Memory),
@@ -71,7 +73,18 @@ pub fn canonical<C: Cells>(alloc: Global, table: &Table<C>) -> Result<Canon, Mem
         Ok(outs) => outs,
         Err(Memory) => return Err(Memory),
     };
-    let classes = match classes(alloc, &rows, table.letters(), &outs) {
+    classes(alloc, &rows, table.letters(), &outs)
+}
+
+/// The canonical table of a diagram: of the same base and number of tracks, it accepts the same words. Fails only for want of memory.
+pub fn canonical<C: Cells>(alloc: Global, table: &Table<C>) -> Result<Canon, Memory>
+    requires { IsDiagram table.now.table }
+    ensures canonical { IfOk result (λ u. IsCanonical u.table) }
+    ensures base { IfOk result (λ u. u.table.base ≡ table.now.table.base) }
+    ensures tracks { IfOk result (λ u. u.table.tracks ≡ table.now.table.tracks) }
+    ensures words { IfOk result (λ u. AcceptSameWords table.now.table u.table) }
+{
+    let classes = match classes_of(alloc, table) {
         Ok(classes) => classes,
         Err(Memory) => return Err(Memory),
     };

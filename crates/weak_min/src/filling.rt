@@ -1,4 +1,4 @@
-//! Filling the table of explored classes: an entry for each start and for each class and letter, an output for each class.
+//! Filling the outputs of the table of explored classes.
 
 ghost use Rattle.std.specs.Prelude.{◌≡◌, ◌+◌, ◌*◌, ◌^◌, ◌<◌, All, IsTrue, length, slice_index};
 ghost use Rattle.graph_laws.specs.Exploring.{list_at};
@@ -26,39 +26,8 @@ fn out_of<C: Cells>(plan: &Plan<'_, C>, position: u32) -> u32
     plan.table.out(plan.found.key(position)[0])
 }
 
-/// Fills the roots.
-fn fill_roots<C: Cells>(plan: &Plan<'_, C>, made: &mut Table<Plain>)
-    requires blank { IsFilling plan.now.table.now.table plan.now.found.now 0 0 0 made.old }
-    ensures filled { IsFilling plan.now.table.now.table plan.now.found.now (2 ^ plan.now.table.now.table.tracks) 0 0 made.new }
-{
-    for sign in 0..2u32.pow(plan.table.tracks()) {
-        made.set_root(sign, plan.found.start(sign));
-    }
-}
-
-/// Fills the row of a position.
-fn fill_row<C: Cells>(plan: &Plan<'_, C>, made: &mut Table<Plain>, position: u32)
-    requires position { position < length plan.now.found.now.keys }
-    requires before { IsFilling plan.now.table.now.table plan.now.found.now (2 ^ plan.now.table.now.table.tracks) (position * plan.now.found.now.width) 0 made.old }
-    ensures filled { IsFilling plan.now.table.now.table plan.now.found.now (2 ^ plan.now.table.now.table.tracks) ((position + 1) * plan.now.found.now.width) 0 made.new }
-{
-    for letter in 0..plan.table.letters() {
-        made.set_int(position, letter, plan.found.target(position, letter));
-    }
-}
-
-/// Fills the rows.
-fn fill_rows<C: Cells>(plan: &Plan<'_, C>, made: &mut Table<Plain>)
-    requires before { IsFilling plan.now.table.now.table plan.now.found.now (2 ^ plan.now.table.now.table.tracks) 0 0 made.old }
-    ensures filled { IsFilling plan.now.table.now.table plan.now.found.now (2 ^ plan.now.table.now.table.tracks) (length plan.now.found.now.keys * plan.now.found.now.width) 0 made.new }
-{
-    for position in 0..plan.found.len() {
-        fill_row(plan, made, position);
-    }
-}
-
 /// Fills the outputs.
-fn fill_outs<C: Cells>(plan: &Plan<'_, C>, made: &mut Table<Plain>)
+pub fn fill_outs<C: Cells>(plan: &Plan<'_, C>, made: &mut Table<Plain>)
     requires proper { All (λ k. IsTrue (is_state (ints plan.now.table.now.table) k)) plan.now.found.now.keys }
     requires diagram { IsDiagram plan.now.table.now.table }
     requires before { IsFilling plan.now.table.now.table plan.now.found.now (2 ^ plan.now.table.now.table.tracks) (length plan.now.found.now.keys * plan.now.found.now.width) 0 made.old }
@@ -67,16 +36,4 @@ fn fill_outs<C: Cells>(plan: &Plan<'_, C>, made: &mut Table<Plain>)
     for position in 0..plan.found.len() {
         made.set_out(position, out_of(plan, position));
     }
-}
-
-/// Fills a blank table.
-pub fn fill<C: Cells>(plan: &Plan<'_, C>, made: &mut Table<Plain>)
-    requires proper { All (λ k. IsTrue (is_state (ints plan.now.table.now.table) k)) plan.now.found.now.keys }
-    requires diagram { IsDiagram plan.now.table.now.table }
-    requires blank { IsFilling plan.now.table.now.table plan.now.found.now 0 0 0 made.old }
-    ensures filled { IsFilling plan.now.table.now.table plan.now.found.now (2 ^ plan.now.table.now.table.tracks) (length plan.now.found.now.keys * plan.now.found.now.width) (length plan.now.found.now.keys) made.new }
-{
-    fill_roots(plan, made);
-    fill_rows(plan, made);
-    fill_outs(plan, made);
 }

@@ -8,7 +8,7 @@ ghost use Rattle.canonical_laws.specs.Behaviour.{AreClasses};
 ghost use Rattle.canonical_laws.specs.Canonical.{IsCanonical, AcceptSameWords};
 ghost use Rattle.weak_min.specs.Quotients.{quotient, IsClassed};
 
-use crate::filling::{Plan, fill};
+use crate::filling::{Plan, fill_outs};
 use lash_io::Memory;
 use std::alloc::Global;
 use std::marker::Model;
@@ -159,7 +159,7 @@ pub fn quotient_table<C: Cells>(
         Ok(found) => found,
         Err(Memory) => return Err(Memory),
     };
-    let mut made = match Table::blank(alloc, table.base(), table.tracks(), found.len(), 0) {
+    let mut made = match Table::of_explored(alloc, table.base(), table.tracks(), &found) {
         Ok(made) => made,
         Err(Memory) => return Err(Memory),
     };
@@ -167,6 +167,6 @@ pub fn quotient_table<C: Cells>(
         table,
         found: &found,
     };
-    fill(&plan, &mut made);
+    fill_outs(&plan, &mut made);
     Ok(made)
 }

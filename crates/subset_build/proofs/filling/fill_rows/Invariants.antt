@@ -1,6 +1,0 @@
-use Rattle.std.proofs.Common.{◌*◌, ◌^◌}
-use Rattle.subset_build.specs.Filling.{IsLaid}
-use Rattle.subset_build.proofs.filling.fill_rows.Given as goal
-
-abbrev pub invariant-loop-position : goal.invariant-loop-position
-invariant-loop-position l = IsLaid l.layout.base l.layout.tracks l.layout.found.now (2 ^ l.layout.tracks) (l.position * l.layout.found.now.width) l.made
