@@ -3,9 +3,10 @@ use Rattle.std.proofs.Common.{◌≡◌, ℕ, zero, suc, ◌+◌, ◌-◌, ◌*�
 use Rattle.std.specs.Prelude.{slice_set, slice_index, nat_eq, All}
 use Rattle.std.specs.List.{slice_index_or, AllByRecursion}
 use Rattle.std.proofs.Math.IntN.{ℤ}
-use Rattle.std.proofs.lemmas.List.{get_or-map}
+use Rattle.std.proofs.lemmas.List.{get_or-map, length-map}
 use Rattle.std.proofs.lemmas.List.Elements.{recursion_from_All}
 use Rattle.graph_laws.specs.Walks.{go}
+use Rattle.canonical_laws.specs.Canonical.{IsNumbered, IsCanonical}
 use Rattle.canonical_laws.proofs.Diagrams.{read_below, place_within, out_below}
 use Rattle.lash_model.specs.Words.{values}
 use Rattle.lash_model.specs.Tables.{Table, letters, ints, IsTable, IsDiagram}
@@ -75,3 +76,22 @@ others_stand t h P s = record {
   diagram = s.diagram;
   each = λ sign w lt a. subst (λ x. IsTrue x ↔ (P (values t.base t.tracks sign w) 1 → ⊥)) (sym (accepts_others t h s.diagram sign w lt a)) (negates (accepts_word t sign w) (P (values t.base t.tracks sign w) 1) (s.each sign w lt a));
 }
+
+-- ---- states that part before do so afterwards
+same_before : (x y : ℕ) → x < 2 → y < 2 → 1 - x ≡ 1 - y → x ≡ y
+same_before x y h k e = omega (arith, h, k, e)
+
+pub negated_canonical : (t : Table) → IsTable (negated t) → IsCanonical t → IsCanonical (negated t)
+negated_canonical t h c = record {
+  table = h;
+  diagram = c.diagram;
+  numbered = subst (λ n. IsNumbered t.roots t.rows (letters t) n) (sym as_many) c.numbered;
+  separated = λ p q p_in q_in b. c.separated p q (subst (λ n. p < n) as_many p_in) (subst (λ n. q < n) as_many q_in) (λ w a. alike (go t.rows (letters t) p w) (go t.rows (letters t) q w) (go_in t c.table p w (subst (λ n. p < n) as_many p_in) a) (go_in t c.table q w (subst (λ n. q < n) as_many q_in) a) (b w a));
+}
+  where
+    as_many : length (exchanged t.outs) ≡ length t.outs
+    as_many = length-map t.outs (λ out. 1 - out)
+
+    alike : (i j : ℕ) → i < ints t → j < ints t → slice_index (exchanged t.outs) i ≡ slice_index (exchanged t.outs) j → slice_index t.outs i ≡ slice_index t.outs j
+    alike i j i_in j_in e = same_before (slice_index t.outs i) (slice_index t.outs j) (out_below t c.table c.diagram i i_in) (out_below t c.table c.diagram j j_in)
+        (sym (get_or-map (λ out. 1 - out) t.outs i 0 0 i_in) ∙ e ∙ get_or-map (λ out. 1 - out) t.outs j 0 0 j_in)

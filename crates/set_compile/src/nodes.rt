@@ -169,7 +169,7 @@ pub fn part(
         Formula::Le(term) => atom_part(alloc, base, term, AtomKind::Le, limit),
         Formula::Eq(term) => atom_part(alloc, base, term, AtomKind::Eq, limit),
         Formula::Not(inner) => match part(alloc, base, inner, places, limit) {
-            Ok(made) => opposite(alloc, made),
+            Ok(made) => opposite(made),
             Err(error) => Err(error),
         },
         Formula::And(left, right) => {

@@ -32,7 +32,7 @@ impl Model for Canon {
 
 impl Canon {
     /// A table that is known to be canonical.
-    pub(crate) fn new(table: Table<Plain>) -> Self
+    pub fn new(table: Table<Plain>) -> Self
         requires { IsCanonical table.table }
         ensures { result ≡ table }
     {

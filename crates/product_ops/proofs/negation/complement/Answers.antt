@@ -1,9 +1,10 @@
 use Rattle.std.proofs.Common.{rules, arith, ◌≡◌, ◌-◌, ◌<◌, ◌∙◌, ap, sym, subst, length, slice_index}
-use Rattle.lash_model.specs.Tables.{Table}
+use Rattle.lash_model.specs.Tables.{Table, IsTable}
+use Rattle.canonical_laws.specs.Canonical.{IsCanonical}
 use Rattle.lash_model.specs.Standing.{StandsForWhole}
 use Rattle.product_ops.specs.Operations.{set_of}
 use Rattle.product_ops.specs.Negation.{negated, AcceptsOthers}
-use Rattle.product_ops.proofs.Exchanging.{one_changed, all_changed, accepts_others, others_stand}
+use Rattle.product_ops.proofs.Exchanging.{one_changed, all_changed, accepts_others, others_stand, negated_canonical}
 use Rattle.product_ops.proofs.negation.complement.Goals as goal
 
 pub loop-state-preserved : goal.loop-state-preserved
@@ -23,3 +24,9 @@ pub returns-clause-stands : goal.returns-clause-stands
 returns-clause-stands g c = λ f s h.
     let end : c.loop-state.state ≡ length c.args.table.now.table.outs = omega (arith, c.loop-state-test.false, c.loop-state.auto.state-end, c.ints-state-end.ensures) in
     subst (λ u. StandsForWhole u (λ ns d. set_of f s ns d → ⊥)) (sym (all_changed c.args.table.now c.loop-state.table c.loop-state.state c.loop-state.invariant.changed end)) (others_stand c.args.table.now.table c.letters-letters.ensures.table (set_of f s) h)
+
+pub returns-clause-canonical : goal.returns-clause-canonical
+returns-clause-canonical g c = λ h.
+    let end : c.loop-state.state ≡ length c.args.table.now.table.outs = omega (arith, c.loop-state-test.false, c.loop-state.auto.state-end, c.ints-state-end.ensures) in
+    let is = all_changed c.args.table.now c.loop-state.table c.loop-state.state c.loop-state.invariant.changed end in
+    subst (λ u. IsCanonical u) (sym is) (negated_canonical c.args.table.now.table (subst (λ u. IsTable u) is c.loop-state.invariant.valid) h)

@@ -6,3 +6,6 @@ use Rattle.set_compile.proofs.negation.exchanged.Goals as goal
 
 pub returns-clause-stands : goal.returns-clause-stands
 returns-clause-stands c = λ f s p. c.complement.ensures.stands f s (subst (λ (k : Kept). StandsForWhole k.table (set_of f s)) (sym c.into_table-table.ensures.value) p)
+
+pub returns-clause-canonical : goal.returns-clause-canonical
+returns-clause-canonical c = c.complement.ensures.canonical c.into_table-table.ensures.canonical
