@@ -115,6 +115,20 @@ impl<A: Cells, B: Cells> Machine for Pairs<'_, A, B> {
         self.right.states()
     }
 
+    fn number_behind(&self, from: &Key, letter: u32) -> u64 {
+        let key = from.as_slice();
+        let left = self.left.step(key[0], letter);
+        let right = self.right.step(key[1], letter);
+        u64::from(left) * u64::from(self.right.states()) + u64::from(right)
+    }
+
+    fn is_behind(&self, from: &Key, letter: u32, key: &[u32]) -> bool {
+        let entries = from.as_slice();
+        key.len() == 2
+            && key[0] == self.left.step(entries[0], letter)
+            && key[1] == self.right.step(entries[1], letter)
+    }
+
     fn weight(&self, _key: &Key) -> u64 {
         ENTRIES
     }

@@ -14,7 +14,7 @@ use Rattle.graph_laws.specs.Walks.{go}
 use Rattle.step_tables.specs.Gathering.{same_list, met, Placed, Begun, Starting, Following, IsLinked}
 use Rattle.graph_laws.proofs.PathOrder.{chained, at_most_before, at_most_chained, one_letter_more, last_letter, same_letter_more, longer, no_more, one_then, before_letters}
 use Rattle.graph_laws.proofs.Positions.{starts_in, targets_in}
-use Rattle.step_tables.proofs.Placing.{led-more, as_many, key_is, stepped, placed_kept, pushed_left, pushed_last, heavy}
+use Rattle.step_tables.proofs.Placing.{led-more, as_many, key_is, stepped, placed_kept, pushed_left, pushed_last, heavy, found_at}
 
 next_start : (n : ℕ) → Before (start_path n) (start_path (n + 1))
 next_start n = Rattle.graph_laws.specs.Paths.Before.lower refl (omega arith)
@@ -141,6 +141,14 @@ following_more m at letter t u p f lt l_in proper keys cells place rows starts w
     }
 
 -- the whole row has been followed
+-- a key that is known stays where it is
+pub following_known : (m : Steps) (at letter : ℕ) (t u : KeyTable) (p : ℕ) → Following m at letter t → at < length t.keys → letter < m.width → u.keys ≡ t.keys → u.cells ≡ t.cells → slice_get t.keys p ≡ Some (m.step (list_at t.keys at) letter) → u.rows ≡ t.rows ++ p ∷ [] → u.starts ≡ t.starts → u.width ≡ t.width → Following m at (letter + 1) u
+following_known m at letter t u p f lt l_in keys cells place rows starts width = following_more m at letter t u p f lt l_in
+    (subst (λ x. IsTrue (m.is_proper x)) (get_or_from_slice_get t.keys p (m.step (list_at t.keys at) letter) [] place) (f.found.proper p [] (slice_get_within t.keys p (m.step (list_at t.keys at) letter) place)))
+    (keys ∙ sym (ap (λ b. if b then t.keys else t.keys ++ m.step (list_at t.keys at) letter ∷ []) (found_at (m.step (list_at t.keys at) letter) t.keys p place)))
+    (cells ∙ sym (ap (λ b. if b then t.cells else t.cells + cells_of m (m.step (list_at t.keys at) letter)) (found_at (m.step (list_at t.keys at) letter) t.keys p place)))
+    (ap (λ ks. slice_get ks p) keys ∙ place) rows starts width
+
 pub following_row : (m : Steps) (at : ℕ) (t : KeyTable) → Following m at m.width t → at < length t.keys → Following m (at + 1) 0 t
 following_row m at t f lt = record {
   width = f.width;

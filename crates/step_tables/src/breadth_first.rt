@@ -1,7 +1,7 @@
 //! Breadth-first search through a machine's keys: the list of keys is its own queue. It costs one look-up for each key and letter,
 //! and takes memory only where a key is new.
 
-ghost use Rattle.std.specs.Prelude.{◌≡◌, ◌+◌, ◌<◌, ◌≤◌, ◌^◌, List, ℕ, [], length, slice_get, Some, IsTrue, IfOk, IfErr, OnOk, false, if◌then◌else◌};
+ghost use Rattle.std.specs.Prelude.{◌≡◌, ◌+◌, ◌<◌, ◌≤◌, ◌^◌, List, ℕ, [], length, slice_get, Some, IsTrue, IfOk, IfErr, IfSome, OnOk, false, if◌then◌else◌};
 ghost use Rattle.std.specs.List.{list_any};
 ghost use Rattle.graph_laws.specs.Exploring.{list_at, cells_of, IsExplored, IsHeavy};
 ghost use Rattle.step_tables.specs.Gathering.{met, same_list, Starting, Following};
@@ -115,8 +115,27 @@ fn begin_all<M: Machine>(
     Ok(())
 }
 
-/// Meets the key that a letter leads to.
-fn follow<M: Machine>(
+/// The position of the key that a letter leads to, if it is noted.
+fn known_behind<M: Machine>(machine: &M, found: &Found, at: usize, letter: u32) -> Option<u32>
+    requires few { found.now.cells < 2 ^ 32 }
+    requires at { at < length found.now.keys }
+    requires proper { IsTrue ((M.meaning machine.now).is_proper (list_at found.now.keys at)) }
+    requires letter { letter < (M.meaning machine.now).width }
+    ensures { IfSome result (λ p. slice_get found.now.keys p ≡ Some ((M.meaning machine.now).step (list_at found.now.keys at) letter)) }
+{
+    let from = found.key(at);
+    let place = match found.noted_at(machine.number_behind(from, letter)) {
+        Some(place) => place,
+        None => return None,
+    };
+    if found.len() <= place || !machine.is_behind(from, letter, found.key(place).as_slice()) {
+        return None;
+    }
+    Some(place as u32)
+}
+
+/// Meets the key that a letter leads to, written anew.
+fn follow_anew<M: Machine>(
     alloc: Global,
     machine: &mut M,
     table: &mut Search,
@@ -143,6 +162,38 @@ fn follow<M: Machine>(
     let place = match place(alloc, &*machine, &mut table.found, &*into, limit) {
         Ok(place) => place,
         Err(error) => return Err(error),
+    };
+    match table.rows.push(place) {
+        Ok(()) => {}
+        Err(_) => return Err(ExploreError::Memory),
+    }
+    Ok(())
+}
+
+/// Meets the key that a letter leads to. One that is known by its number is not written.
+fn follow<M: Machine>(
+    alloc: Global,
+    machine: &mut M,
+    table: &mut Search,
+    into: &mut Key,
+    at: usize,
+    letter: u32,
+    limit: u64,
+) -> Result<(), ExploreError>
+    requires limit { limit < 2 ^ 32 }
+    requires within { table.old.cells ≤ limit }
+    requires at { at < length table.old.keys }
+    requires letter { letter < (M.meaning machine.old).width }
+    requires followed { Following (M.meaning machine.old) at letter table.old }
+    ensures followed { OnOk result (Following (M.meaning machine.old) at (letter + 1) table.new) }
+    ensures grown { OnOk result (length table.old.keys ≤ length table.new.keys) }
+    ensures within { OnOk result (table.new.cells ≤ limit) }
+    ensures heavy { IfErr result (λ e. e ≡ ExploreError.Heavy → IsHeavy (M.meaning machine.old) limit) }
+    ensures kept { M.meaning machine.new ≡ M.meaning machine.old }
+{
+    let place = match known_behind(&*machine, &table.found, at, letter) {
+        Some(place) => place,
+        None => return follow_anew(alloc, machine, table, into, at, letter, limit),
     };
     match table.rows.push(place) {
         Ok(()) => {}

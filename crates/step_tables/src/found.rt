@@ -85,6 +85,20 @@ impl Found {
         self.places.len() != 0
     }
 
+    /// The position that is noted for a number.
+    pub fn noted_at(&self, number: u64) -> Option<usize>
+        ensures { IfSome result (λ p. p < length self.now.keys) }
+    {
+        if number >= self.places.len() as u64 {
+            return None;
+        }
+        let place = self.places[number as usize] as usize;
+        if place == 0 || place > self.keys.len() {
+            return None;
+        }
+        Some(place - 1)
+    }
+
     /// The position that is noted for a key. Where none is, the key may still have been found.
     pub fn noted(&self, key: &Key) -> Option<usize>
         ensures place { IfSome result (λ p. slice_get self.now.keys p ≡ Some key.now.items) }

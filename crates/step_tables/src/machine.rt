@@ -46,6 +46,17 @@ pub trait Machine {
     /// The radix of the first of two entries.
     fn radix(&self) -> u32;
 
+    /// The number of the key behind a proper key and a letter. It steers speed alone.
+    fn number_behind(&self, from: &Key, letter: u32) -> u64
+        requires proper { IsTrue ((meaning self.now).is_proper from.now.items) }
+        requires letter { letter < (meaning self.now).width };
+
+    /// Whether a key is the one behind a proper key and a letter. A machine that cannot tell without writing it may say no.
+    fn is_behind(&self, from: &Key, letter: u32, key: &[u32]) -> bool
+        requires proper { IsTrue ((meaning self.now).is_proper from.now.items) }
+        requires letter { letter < (meaning self.now).width }
+        ensures { IsTrue result → key.now ≡ (meaning self.now).step from.now.items letter };
+
     /// The weight of a proper key.
     fn weight(&self, key: &Key) -> u64
         requires { IsTrue ((meaning self.now).is_proper key.now.items) }

@@ -75,6 +75,14 @@ impl Machine for Pairs {
         2
     }
 
+    fn number_behind(&self, _from: &Key, _letter: u32) -> u64 {
+        u64::MAX
+    }
+
+    fn is_behind(&self, _from: &Key, _letter: u32, _key: &[u32]) -> bool {
+        false
+    }
+
     fn weight(&self, _key: &Key) -> u64 {
         2
     }

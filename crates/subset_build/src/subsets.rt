@@ -154,6 +154,14 @@ impl<C: Cells> Machine for Subsets<'_, C> {
         0
     }
 
+    fn number_behind(&self, _from: &Key, _letter: u32) -> u64 {
+        u64::MAX
+    }
+
+    fn is_behind(&self, _from: &Key, _letter: u32, _key: &[u32]) -> bool {
+        false
+    }
+
     fn weight(&self, key: &Key) -> u64 {
         key.len() as u64
     }

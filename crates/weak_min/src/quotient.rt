@@ -123,6 +123,14 @@ impl<C: Cells> Machine for Quotient<'_, C> {
         0
     }
 
+    fn number_behind(&self, from: &Key, letter: u32) -> u64 {
+        u64::from(self.target(from.as_slice()[0], letter))
+    }
+
+    fn is_behind(&self, from: &Key, letter: u32, key: &[u32]) -> bool {
+        key.len() == 1 && key[0] == self.target(from.as_slice()[0], letter)
+    }
+
     fn weight(&self, _key: &Key) -> u64 {
         0
     }
