@@ -1,5 +1,5 @@
 //! The table of a linear equation or inequation over integers: a state counts the thresholds below the value that was read (own).
-//! Costs a look-up for each threshold and letter, and a search by halves for each state and letter.
+//! Costs a look-up for each threshold and letter, and one sweep over the thresholds for each letter.
 
 ghost use Rattle.std.specs.Prelude.{◌≡◌, ℕ, ℤ, pos, ◌+◌, ◌-◌, ◌*◌, ◌^◌, ◌<◌, ◌≤◌, ◌-ℤ◌, List, length, All, unsigned_abs, IfOk, IfErr};
 ghost use Rattle.lash_model.specs.Formulas.{IsInside};

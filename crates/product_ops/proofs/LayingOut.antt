@@ -8,19 +8,14 @@ use Rattle.std.proofs.lemmas.List.{get_or-set_same, get_or-set_other, length-set
 use Rattle.std.proofs.lemmas.List.{length-replicate}
 use mathlib.Core.Logic.{inl, inr}
 use Rattle.graph_laws.specs.Exploring.{Steps, KeyTable, list_at, weigh, IsExplored}
-use Rattle.lash_model.specs.Tables.{Table, letters, ints, IsTable, IsShape}
-use Rattle.step_tables.specs.Kept.{Kept, plain, laid, wide}
-use Rattle.canonical_laws.proofs.Diagrams.{place_within, same_lists}
+use Rattle.lash_model.specs.Tables.{Table, letters, IsTable, IsShape}
+use Rattle.step_tables.specs.Kept.{Kept, plain, laid}
+use Rattle.canonical_laws.proofs.Diagrams.{same_lists}
 use Rattle.product_ops.specs.Tracks.{TrackLists}
 use Rattle.product_ops.specs.Pairs.{left_operand, right_operand, pairs, out_by, IsOperand, IsPairTable}
-use Rattle.product_ops.specs.Filling.{SameUpTo, AreOuts, IsBlankFor, IsLaid, IsFilling}
+use Rattle.product_ops.specs.Filling.{IsBlankFor, IsLaid, IsFilling}
 use Rattle.product_ops.specs.declared.operation.Op.{Op}
-use Rattle.product_ops.proofs.TrackReading.{few_signs}
 use Rattle.product_ops.proofs.PairRuns.{starts_count}
-
--- there are few roots
-pub few_roots : (base tracks : ℕ) (k : KeyTable) (u : Kept) → IsBlankFor base tracks k u → 2 ^ tracks ≤ 4096
-few_roots base tracks k u s = few_signs base tracks (subst (λ b. 2 ≤ b) s.base_is s.table.shape.base_low) (subst (λ n. base ^ n ≤ 4096) s.tracks_are (subst (λ b. b ^ u.table.tracks ≤ 4096) s.base_is s.table.shape.few_letters))
 
 -- the letters of the table are those that were explored
 pub widths : (base tracks : ℕ) (k : KeyTable) (u : Kept) → IsBlankFor base tracks k u → letters u.table ≡ k.width

@@ -12,16 +12,11 @@ use mathlib.Core.Logic.{inl, inr}
 use Rattle.graph_laws.specs.Exploring.{Steps, KeyTable, list_at, weigh, IsExplored}
 use Rattle.lash_model.specs.Tables.{Table, letters, IsTable, IsShape}
 use Rattle.step_tables.specs.Kept.{Kept, plain, laid}
-use Rattle.canonical_laws.proofs.Diagrams.{place_within, same_lists}
+use Rattle.canonical_laws.proofs.Diagrams.{same_lists}
 use Rattle.subset_build.specs.Projection.{kept, AreStartSets, subsets, is_rising_in, out_of_set, IsSubsetTable}
-use Rattle.subset_build.specs.Filling.{SameUpTo, IsBlankFor, IsLaid, IsFilling}
-use Rattle.subset_build.proofs.KeptLetters.{few_signs}
+use Rattle.subset_build.specs.Filling.{IsBlankFor, IsLaid, IsFilling}
 use Rattle.subset_build.proofs.Closings.{few_kept_letters}
 use Rattle.subset_build.proofs.Targets.{below_from_proper}
-
--- there are few roots
-pub few_roots : (base tracks : ℕ) (k : KeyTable) (u : Kept) → IsBlankFor base tracks k u → 2 ^ tracks ≤ 4096
-few_roots base tracks k u s = few_signs base tracks (subst (λ b. 2 ≤ b) s.base_is s.table.shape.base_low) (subst (λ n. base ^ n ≤ 4096) s.tracks_are (subst (λ b. b ^ u.table.tracks ≤ 4096) s.base_is s.table.shape.few_letters))
 
 -- the letters of the table are those that were explored
 pub widths : (base tracks : ℕ) (k : KeyTable) (u : Kept) → IsBlankFor base tracks k u → letters u.table ≡ k.width

@@ -9,16 +9,11 @@ use mathlib.Core.Logic.{inl, inr}
 use Rattle.graph_laws.specs.Exploring.{KeyTable, list_at}
 use Rattle.lash_model.specs.Tables.{Table, letters, IsTable}
 use Rattle.step_tables.specs.Kept.{Kept, plain, laid}
-use Rattle.canonical_laws.proofs.Diagrams.{place_within}
-use Rattle.weak_min.specs.Filling.{SameUpTo, IsBlankFor, IsFilling}
+use Rattle.weak_min.specs.Filling.{IsBlankFor, IsFilling}
 
 -- there are no more sign vectors than letters
 pub few_signs : (base n : ℕ) → 2 ≤ base → base ^ n ≤ 4096 → 2 ^ n ≤ 4096
 few_signs base n h k = omega (arith, k, pow-le-pow_left h n)
-
--- there are few roots
-pub few_roots : (source : Table) (k : KeyTable) (u : Kept) → IsBlankFor source.base source.tracks k u → 2 ^ source.tracks ≤ 4096
-few_roots source k u s = few_signs source.base source.tracks (subst (λ b. 2 ≤ b) s.base_is s.table.shape.base_low) (subst (λ n. source.base ^ n ≤ 4096) s.tracks_are (subst (λ b. b ^ u.table.tracks ≤ 4096) s.base_is s.table.shape.few_letters))
 
 -- one entry more
 one_more : (xs : List ℕ) (f : ℕ → ℕ) (n to : ℕ) → ((p : ℕ) → p < n → slice_index xs p ≡ f p) → n < length xs → to ≡ f n → (p : ℕ) → p < n + 1 → slice_index (slice_set xs n to) p ≡ f p

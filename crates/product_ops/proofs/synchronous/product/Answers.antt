@@ -1,4 +1,4 @@
-use Rattle.std.proofs.Common.{◌≡◌, ◌∙◌, ap, sym, subst, ◌^◌, ◌*◌, length}
+use Rattle.std.proofs.Common.{◌∙◌, ap, sym, subst, ◌^◌, length}
 use Rattle.lash_model.specs.Tables.{IsShape}
 use Rattle.product_ops.specs.Operations.{set_of}
 use Rattle.product_ops.specs.Pairs.{left_operand, right_operand}
