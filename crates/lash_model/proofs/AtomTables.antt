@@ -9,13 +9,13 @@ use mathlib.Core.Logic.{inl, inr}
 use Rattle.integer_laws.specs.Runs.{run}
 use Rattle.integer_laws.proofs.Ring.{times_one}
 use Rattle.graph_laws.specs.Walks.{go}
-use Rattle.lash_model.specs.Formulas.{Linear}
+use Rattle.lash_model.specs.Formulas.{Linear, Comparison, AtMost, Equal, atom}
 use Rattle.lash_model.specs.Words.{values}
 use Rattle.lash_model.specs.Meaning.{total, holds}
 use Rattle.lash_model.specs.Tables.{Table, letters}
 use Rattle.lash_model.specs.Acceptance.{accepts_word}
 use Rattle.lash_model.specs.Standing.{StandsForWhole}
-use Rattle.lash_model.specs.Thresholds.{Comparison, AtMost, Equal, atom, seeds, passes, letter_total, sign_total, lowered_by, lowered, Among, IsThreshold, AreThresholds, one_if, below, representative, CountsThresholds}
+use Rattle.lash_model.specs.Thresholds.{seeds, passes, letter_total, sign_total, lowered_by, lowered, Among, IsThreshold, AreThresholds, one_if, below, representative, CountsThresholds}
 use Rattle.lash_model.proofs.Totals.{total_of_values}
 use Rattle.lash_model.proofs.Counting.{below_few, step_counts, below-representative, not_parted}
 

@@ -35,3 +35,12 @@ pub data Formula : Type 0 where
   And : Formula → Formula → Formula
   Or : Formula → Formula → Formula
   Exists : Sort → Formula → Formula
+
+-- whether an atom compares its sum to its constant by at most, or by equal
+pub data Comparison : Type 0 where
+  AtMost : Comparison
+  Equal : Comparison
+
+abbrev pub atom : Comparison → Linear → Formula
+atom AtMost a = Le a
+atom Equal a = Eq a

@@ -5,18 +5,9 @@ use Rattle.std.specs.List.{AllPairs, AllByRecursion, slice_index_or}
 use Rattle.std.specs.Int.{int_div_euclid}
 use Rattle.integer_laws.specs.Vectors.{vector}
 use Rattle.lash_model.specs.Letters.{digit, sign_bit}
-use Rattle.lash_model.specs.Formulas.{Linear, Formula, Le, Eq}
+use Rattle.lash_model.specs.Formulas.{Linear, Comparison, AtMost, Equal}
 use Rattle.lash_model.specs.Meaning.{total}
 use Rattle.lash_model.specs.Tables.{Table, IsDiagram}
-
--- whether an atom compares its sum to its constant by at most, or by equal
-pub data Comparison : Type 0 where
-  AtMost : Comparison
-  Equal : Comparison
-
-abbrev pub atom : Comparison → Linear → Formula
-atom AtMost a = Le a
-atom Equal a = Eq a
 
 -- the bounds whose passing decides the comparison
 abbrev pub seeds : Comparison → ℤ → List ℤ

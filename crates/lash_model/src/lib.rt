@@ -10,11 +10,11 @@ ghost use Rattle.integer_laws.specs.Vectors.{scale};
 ghost use Rattle.lash_model.specs.Letters.{digits, number, AreDigits, digit, sign_bit, sign_letter};
 ghost use Rattle.lash_model.specs.Words.{value, values, track_digits, IsBounded, SpellsNumber};
 ghost use Rattle.lash_model.specs.Lassos.{Lasso, numerator, denominator};
-ghost use Rattle.lash_model.specs.Formulas.{Sort, Linear, Formula};
+ghost use Rattle.lash_model.specs.Formulas.{Sort, Linear, Formula, Comparison, atom};
 ghost use Rattle.lash_model.specs.Meaning.{total, holds, Solves};
 ghost use Rattle.lash_model.specs.Tables.{Table};
 ghost use Rattle.lash_model.specs.Standing.{StandsForWhole};
-ghost use Rattle.lash_model.specs.Thresholds.{Comparison, atom, letter_total, sign_total, seeds, AreThresholds, CountsThresholds};
+ghost use Rattle.lash_model.specs.Thresholds.{letter_total, sign_total, seeds, AreThresholds, CountsThresholds};
 
 /// The expansion of a letter is the one list of so many digits below the base whose number is the letter.
 pub fn letters_are_their_digits()

@@ -8,9 +8,9 @@ use Rattle.std.proofs.lemmas.Bool.{cases_lt}
 use Rattle.std.proofs.lemmas.List.{get_or-set_same, get_or-set_other}
 use Rattle.std.proofs.lemmas.Nat.{same_from_place}
 use mathlib.Core.Logic.{inl, inr}
-use Rattle.lash_model.specs.Formulas.{Linear}
+use Rattle.lash_model.specs.Formulas.{Linear, Comparison}
 use Rattle.lash_model.specs.Tables.{IsTable}
-use Rattle.lash_model.specs.Thresholds.{Comparison, letter_total, sign_total}
+use Rattle.lash_model.specs.Thresholds.{letter_total, sign_total}
 use Rattle.lash_model.specs.Letters.{sign_bit}
 use Rattle.step_tables.specs.Kept.{Kept}
 use Rattle.linear_atoms.specs.Closing.{entry}

@@ -5,11 +5,11 @@ use Rattle.std.specs.Prelude.{All}
 use Rattle.std.specs.List.{slice_index_or, AllByRecursion}
 use Rattle.std.proofs.lemmas.List.Elements.{All-weaker}
 use mathlib.Core.Logic.{inl}
-use Rattle.lash_model.specs.Formulas.{Linear}
+use Rattle.lash_model.specs.Formulas.{Linear, Comparison, AtMost, Equal, atom}
 use Rattle.lash_model.specs.Meaning.{holds}
 use Rattle.lash_model.specs.Tables.{Table}
 use Rattle.lash_model.specs.Standing.{StandsForWhole}
-use Rattle.lash_model.specs.Thresholds.{Comparison, AtMost, Equal, atom, seeds, letter_total, lowered_by, lowered, Among, IsThreshold, AreThresholds, atom_cells, TooManyThresholds, CountsThresholds, IsAtomTable, IsHeavyAtom, below, representative}
+use Rattle.lash_model.specs.Thresholds.{seeds, letter_total, lowered_by, lowered, Among, IsThreshold, AreThresholds, atom_cells, TooManyThresholds, CountsThresholds, IsAtomTable, IsHeavyAtom, below, representative}
 use Rattle.lash_model.proofs.AtomTables.{counting_stands, seed_is_threshold}
 use Rattle.step_tables.specs.Kept.{Kept}
 use Rattle.linear_atoms.specs.Closing.{entry, IsOverfull}

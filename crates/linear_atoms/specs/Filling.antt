@@ -1,9 +1,9 @@
 -- Tables of atoms as far as they are filled.
 use Rattle.std.specs.Prelude.{ℕ, ◌+◌, ◌-◌, ◌*◌, ◌^◌, ◌<◌, ◌≤◌, ◌≡◌, List, [], length, All, ℤ, pos, neg_ℤ, ◌+ℤ◌, ◌*ℤ◌, ◌<ℤ◌}
 use Rattle.std.specs.List.{slice_index_or, AllPairs}
-use Rattle.lash_model.specs.Formulas.{Linear, IsInside}
+use Rattle.lash_model.specs.Formulas.{Linear, IsInside, Comparison}
 use Rattle.lash_model.specs.Tables.{Table, IsTable}
-use Rattle.lash_model.specs.Thresholds.{Comparison, passes, sign_total, one_if, below, representative}
+use Rattle.lash_model.specs.Thresholds.{passes, sign_total, one_if, below, representative}
 use Rattle.step_tables.specs.Kept.{Kept}
 use Rattle.linear_atoms.specs.Closing.{entry, IsSmall, IsSmallTotal}
 

@@ -1,5 +1,5 @@
 -- The comparison of the model that an atom's kind is.
-use Rattle.lash_model.specs.Thresholds.{Comparison, AtMost, Equal}
+use Rattle.lash_model.specs.Formulas.{Comparison, AtMost, Equal}
 use Rattle.linear_atoms.specs.declared.kind.AtomKind.{AtomKind}
 use Rattle.linear_atoms.specs.declared.kind.AtomKind.TheVariants.{Le, Eq}
 

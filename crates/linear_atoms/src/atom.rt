@@ -2,11 +2,11 @@
 //! Costs a look-up for each threshold and letter, and one sweep over the thresholds for each letter.
 
 ghost use Rattle.std.specs.Prelude.{◌≡◌, ℕ, ℤ, pos, ◌+◌, ◌-◌, ◌*◌, ◌^◌, ◌<◌, ◌≤◌, ◌-ℤ◌, List, length, All, unsigned_abs, IfOk, IfErr};
-ghost use Rattle.lash_model.specs.Formulas.{IsInside};
+ghost use Rattle.lash_model.specs.Formulas.{IsInside, atom as atom_of};
 ghost use Rattle.lash_model.specs.Meaning.{holds};
 ghost use Rattle.lash_model.specs.Tables.{IsTable};
 ghost use Rattle.lash_model.specs.Standing.{StandsForWhole};
-ghost use Rattle.lash_model.specs.Thresholds.{seeds, atom as atom_of, IsAtomTable, IsHeavyAtom};
+ghost use Rattle.lash_model.specs.Thresholds.{seeds, IsAtomTable, IsHeavyAtom};
 ghost use Rattle.linear_atoms.specs.Closing.{IsSmall};
 ghost use Rattle.linear_atoms.specs.Kinds.{comparison_of};
 ghost use Rattle.linear_atoms.specs.Filling.{IsPlan, IsFilling};

@@ -1,9 +1,9 @@
 //! Laws of atoms' tables.
 
 ghost use Rattle.std.specs.Prelude.{ℕ};
-ghost use Rattle.lash_model.specs.Formulas.{Linear};
+ghost use Rattle.lash_model.specs.Formulas.{Linear, Comparison};
 ghost use Rattle.lash_model.specs.Tables.{Table};
-ghost use Rattle.lash_model.specs.Thresholds.{Comparison, IsAtomTable, IsHeavyAtom};
+ghost use Rattle.lash_model.specs.Thresholds.{IsAtomTable, IsHeavyAtom};
 
 /// A heavy atom and a table of it exclude each other.
 pub fn heavy_or_table()

@@ -6,11 +6,11 @@ use Rattle.std.specs.List.{AllByRecursion}
 use Rattle.std.proofs.lemmas.Bool.{false≢true}
 use Rattle.std.proofs.lemmas.List.Elements.{All-from_recursion}
 use Rattle.graph_laws.specs.Exploring.{IsHeavy}
-use Rattle.lash_model.specs.Formulas.{Linear, Formula, Le, Eq, Not, And, Or, Exists}
+use Rattle.lash_model.specs.Formulas.{Linear, Formula, Le, Eq, Not, And, Or, Exists, Comparison, AtMost, Equal, atom}
 use Rattle.lash_model.specs.Meaning.{holds}
 use Rattle.lash_model.specs.Tables.{Table, letters}
 use Rattle.lash_model.specs.Standing.{StandsForWhole}
-use Rattle.lash_model.specs.Thresholds.{Comparison, AtMost, Equal, atom, IsAtomTable, IsHeavyAtom}
+use Rattle.lash_model.specs.Thresholds.{IsAtomTable, IsHeavyAtom}
 use Rattle.lash_model.proofs.AtomTables.{counting_stands}
 use Rattle.canonical_laws.specs.Canonical.{AcceptSameWords}
 use Rattle.canonical_laws.proofs.Diagrams.{diagrams_unique}

@@ -6,9 +6,9 @@ use Rattle.std.specs.declared.result.Result.{Result}
 use Rattle.std.specs.declared.result.Result.TheVariants.{Ok, Err}
 use mathlib.Core.Logic.{inl, inr}
 use Rattle.graph_laws.specs.Exploring.{IsHeavy}
-use Rattle.lash_model.specs.Formulas.{Int, Linear, IsLinear, Formula, Le, Eq, Not, And, Or, Exists}
+use Rattle.lash_model.specs.Formulas.{Int, Linear, IsLinear, Formula, Le, Eq, Not, And, Or, Exists, AtMost, Equal}
 use Rattle.lash_model.specs.Tables.{Table}
-use Rattle.lash_model.specs.Thresholds.{AtMost, Equal, IsHeavyAtom}
+use Rattle.lash_model.specs.Thresholds.{IsHeavyAtom}
 use Rattle.formula_core.specs.Counts.{uses, free_places}
 use Rattle.formula_core.specs.FewLetters.{HasFewLetters}
 use Rattle.product_ops.specs.Negation.{AcceptsOthers}

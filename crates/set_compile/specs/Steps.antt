@@ -2,9 +2,9 @@
 -- whole limit of cells. A complement has no cells, and a bound variable that its body does not use costs no step.
 use Rattle.std.specs.Prelude.{◌≡◌, ℕ, suc, ◌+◌, ◌<◌, ◌⊎◌, true, false, List, [], ◌∷◌, length, ℤ, pos}
 use Rattle.graph_laws.specs.Exploring.{IsHeavy}
-use Rattle.lash_model.specs.Formulas.{Linear, Formula, Le, Eq, Not, And, Or, Exists}
+use Rattle.lash_model.specs.Formulas.{Linear, Formula, Le, Eq, Not, And, Or, Exists, Comparison, AtMost, Equal}
 use Rattle.lash_model.specs.Tables.{Table}
-use Rattle.lash_model.specs.Thresholds.{Comparison, AtMost, Equal, IsAtomTable, IsHeavyAtom}
+use Rattle.lash_model.specs.Thresholds.{IsAtomTable, IsHeavyAtom}
 use Rattle.canonical_laws.specs.Canonical.{IsCanonical, AcceptSameWords}
 use Rattle.formula_core.specs.Counts.{uses, free_places}
 use Rattle.product_ops.specs.Negation.{AcceptsOthers}

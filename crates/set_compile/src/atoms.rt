@@ -1,10 +1,10 @@
 //! The step of an atom: its table over its own variables, made canonical.
 
 ghost use Rattle.std.specs.Prelude.{◌≡◌, ◌<◌, ◌≤◌, ◌^◌, [], ◌∷◌, ◌++◌, All, pos, length, unsigned_abs, IfOk, IfErr, OnOk};
-ghost use Rattle.lash_model.specs.Formulas.{IsInside, IsLinear};
+ghost use Rattle.lash_model.specs.Formulas.{IsInside, IsLinear, atom as atom_of};
 ghost use Rattle.lash_model.specs.Meaning.{holds};
 ghost use Rattle.lash_model.specs.Standing.{StandsForWhole};
-ghost use Rattle.lash_model.specs.Thresholds.{atom as atom_of, IsHeavyAtom};
+ghost use Rattle.lash_model.specs.Thresholds.{IsHeavyAtom};
 ghost use Rattle.linear_atoms.specs.Kinds.{comparison_of};
 ghost use Rattle.set_compile.specs.Steps.{own, IsShaped, IsOfAtom};
 

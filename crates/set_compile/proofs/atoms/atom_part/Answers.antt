@@ -2,10 +2,9 @@ use Rattle.std.proofs.Common.{◌<◌, ℕ, length, sym, ap, subst, arith}
 use Rattle.std.proofs.Math.IntN.{ℤ}
 use Rattle.std.specs.Prelude.{All}
 use Rattle.std.proofs.lemmas.List.Elements.{All-from_recursion}
-use Rattle.lash_model.specs.Formulas.{Linear, IsInside}
+use Rattle.lash_model.specs.Formulas.{Linear, IsInside, atom}
 use Rattle.lash_model.specs.Meaning.{holds}
 use Rattle.lash_model.specs.Standing.{StandsForWhole}
-use Rattle.lash_model.specs.Thresholds.{atom}
 use Rattle.canonical_laws.proofs.Carrying.{stands_carried}
 use Rattle.linear_atoms.specs.Kinds.{comparison_of}
 use Rattle.set_compile.specs.Steps.{own}
