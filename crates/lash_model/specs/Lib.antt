@@ -7,5 +7,4 @@ pub mod Tables
 pub mod Acceptance
 pub mod Standing
 pub mod Text
-pub mod Thresholds
 pub mod Faults

@@ -2,19 +2,16 @@
 //! standing for a set.
 #![tactic(auto)]
 
-ghost use Rattle.std.specs.Prelude.{◌≡◌, ℕ, suc, ◌+◌, ◌-◌, ◌*◌, ◌^◌, ◌<◌, ◌≤◌, ◌↔◌, List, [], ◌∷◌, ◌++◌, length, All, map, ℤ, pos, negsuc, neg_ℤ, ◌+ℤ◌, ◌*ℤ◌};
+ghost use Rattle.std.specs.Prelude.{◌≡◌, ℕ, suc, ◌+◌, ◌*◌, ◌^◌, ◌<◌, ◌≤◌, List, [], ◌∷◌, ◌++◌, length, ℤ, pos, negsuc, ◌+ℤ◌, ◌*ℤ◌};
 ghost use Rattle.std.specs.List.{AllByRecursion};
 ghost use Rattle.integer_laws.specs.Differences.{diff};
 ghost use Rattle.integer_laws.specs.Runs.{run, gain};
 ghost use Rattle.integer_laws.specs.Vectors.{scale};
 ghost use Rattle.lash_model.specs.Letters.{digits, number, AreDigits, digit, sign_bit, sign_letter};
-ghost use Rattle.lash_model.specs.Words.{value, values, track_digits, IsBounded, SpellsNumber};
+ghost use Rattle.lash_model.specs.Words.{value, track_digits, IsBounded, SpellsNumber};
 ghost use Rattle.lash_model.specs.Lassos.{Lasso, numerator, denominator};
-ghost use Rattle.lash_model.specs.Formulas.{Sort, Linear, Formula, Comparison, atom};
-ghost use Rattle.lash_model.specs.Meaning.{total, holds, Solves};
-ghost use Rattle.lash_model.specs.Tables.{Table};
-ghost use Rattle.lash_model.specs.Standing.{StandsForWhole};
-ghost use Rattle.lash_model.specs.Thresholds.{letter_total, sign_total, seeds, AreThresholds, CountsThresholds};
+ghost use Rattle.lash_model.specs.Formulas.{Sort, Formula};
+ghost use Rattle.lash_model.specs.Meaning.{Solves};
 
 /// The expansion of a letter is the one list of so many digits below the base whose number is the letter.
 pub fn letters_are_their_digits()
@@ -56,17 +53,7 @@ pub fn lassos_are_differences()
     ensures denominator { (r : ℕ) (x : Lasso) → 0 < r → denominator r x + r ^ length x.stem ≡ r ^ length x.stem * r ^ length x.cycle }
 {}
 
-/// A linear term's total over the values of a word is the run over the letters' totals from minus the sign bits' total.
-pub fn totals_are_runs()
-    ensures { (ts : List (ℕ × ℤ)) (r n sign : ℕ) (w : List ℕ) → total ts (values r n sign w) ≡ run r (neg_ℤ (sign_total ts n sign)) (map (letter_total ts r n) w) }
-{}
-
 /// A set does not tell fractions from the same fractions over a multiple of their denominator.
 pub fn sets_are_of_fractions()
     ensures { (sorts : List Sort) (f : Formula) (c : ℕ) (ns : List ℤ) (d : ℕ) → (Solves sorts f ns d → Solves sorts f (scale (suc c) ns) (suc c * d)) × (Solves sorts f (scale (suc c) ns) (suc c * d) → Solves sorts f ns d) }
-{}
-
-/// A table whose states count the thresholds of an atom stands for the atom.
-pub fn counting_tables_stand()
-    ensures { (kind : Comparison) (a : Linear) (r n : ℕ) (ts : List ℤ) (t : Table) → 0 < r → CountsThresholds kind a r n ts t → AreThresholds r (r ^ n) (letter_total a.terms r n) (seeds kind a.constant) ts → StandsForWhole t (holds (atom kind a)) }
 {}

@@ -9,8 +9,8 @@ use Rattle.lash_model.specs.Formulas.{Linear, Comparison, AtMost, Equal, atom}
 use Rattle.lash_model.specs.Meaning.{holds}
 use Rattle.lash_model.specs.Tables.{Table}
 use Rattle.lash_model.specs.Standing.{StandsForWhole}
-use Rattle.lash_model.specs.Thresholds.{seeds, letter_total, lowered_by, lowered, Among, IsThreshold, AreThresholds, atom_cells, TooManyThresholds, CountsThresholds, IsAtomTable, IsHeavyAtom, below, representative}
-use Rattle.lash_model.proofs.AtomTables.{counting_stands, seed_is_threshold}
+use Rattle.linear_atoms.specs.Thresholds.{seeds, letter_total, lowered_by, lowered, Among, IsThreshold, AreThresholds, atom_cells, TooManyThresholds, CountsThresholds, IsAtomTable, IsHeavyAtom, below, representative}
+use Rattle.linear_atoms.proofs.AtomTables.{counting_stands, seed_is_threshold}
 use Rattle.step_tables.specs.Kept.{Kept}
 use Rattle.linear_atoms.specs.Closing.{entry, IsOverfull}
 use Rattle.linear_atoms.specs.Totals.{AreTotals}

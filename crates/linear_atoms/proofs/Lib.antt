@@ -1,3 +1,6 @@
+pub mod ValueTotals
+pub mod Counting
+pub mod AtomTables
 pub mod Members
 pub mod Searching
 pub mod Summing

@@ -1,3 +1,4 @@
+pub mod Thresholds
 pub mod Closing
 pub mod Totals
 pub mod Kinds

@@ -1,8 +1,8 @@
 use Rattle.std.proofs.Common.{rules, arith, ◌≡◌, ◌≤◌, ◌<◌, ◌+◌, ◌*◌, ◌^◌, List, ap, ◌∙◌, sym, subst, length}
 use Rattle.std.proofs.Math.IntN.{ℤ}
 use Rattle.lash_model.specs.Formulas.{Linear}
-use Rattle.lash_model.specs.Thresholds.{seeds, AreThresholds, letter_total, CountsThresholds}
-use Rattle.lash_model.proofs.AtomTables.{counting_stands}
+use Rattle.linear_atoms.specs.Thresholds.{seeds, AreThresholds, letter_total, CountsThresholds}
+use Rattle.linear_atoms.proofs.AtomTables.{counting_stands}
 use Rattle.linear_atoms.specs.Kinds.{comparison_of}
 use Rattle.linear_atoms.specs.Closing.{entry, IsOverfull}
 use Rattle.linear_atoms.specs.Totals.{AreTotals}
