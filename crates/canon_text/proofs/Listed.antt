@@ -2,8 +2,8 @@
 use Rattle.std.proofs.Common.{◌≡◌, ℕ, ◌+◌, ◌<◌, List, [], ◌++◌, map, length, get_or, take, drop, codes, arith, ap, sym, ◌∙◌}
 use Rattle.std.proofs.lemmas.List.{length-map, get_or-map}
 use Rattle.lash_model.specs.Formulas.{Sort}
-use Rattle.lash_model.specs.Text.{sort_text, variables_text}
-use Rattle.lash_model.proofs.Texts.{Fronted, variables_more, variables_parted}
+use Rattle.automaton_texts.specs.Text.{sort_text, variables_text}
+use Rattle.automaton_texts.proofs.Texts.{Fronted, variables_more, variables_parted}
 use Rattle.formula_core.specs.Variables.{sort_of, names_of, sorts_of}
 use Rattle.formula_core.specs.declared.sort.Sort.{Sort as DeclaredSort}
 use Rattle.formula_core.specs.declared.sort.Sort.TheVariants.{Int}

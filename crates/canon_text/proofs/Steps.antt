@@ -5,7 +5,7 @@ use Rattle.lash_io.specs.Sinks.{HoldsPart, Puts}
 use Rattle.lash_io.specs.Blocks.{Moves, Passes}
 use Rattle.lash_io.proofs.Holding.{part_more}
 use Rattle.lash_io.proofs.Moving.{passes_then, passes_failed}
-use Rattle.lash_model.proofs.Texts.{Fronted}
+use Rattle.automaton_texts.proofs.Texts.{Fronted}
 
 -- a put that went well, then others with either answer
 pub go_on : {T E : Type 0} {before middle : Option (List ℕ)} {pending between xs : List ℕ} (after : Option (List ℕ)) (now ys : List ℕ) (answer : Result T E)

@@ -2,7 +2,7 @@
 
 ghost use Rattle.std.specs.Prelude.{◌≡◌, ◌≤◌, ◌++◌, ◌^◌, length, codes, OnErr};
 ghost use Rattle.lash_model.specs.Faults.{IsFaultCounted};
-ghost use Rattle.lash_model.specs.Text.{variables_text, line, fracs_line, roots_text, heading, counts};
+ghost use Rattle.automaton_texts.specs.Text.{variables_text, line, fracs_line, roots_text, heading, counts};
 ghost use Rattle.lash_io.specs.Blocks.{Passes};
 
 use crate::pieces::{put_number_line, put_spaced, put_variable};

@@ -4,7 +4,7 @@
 
 ghost use Rattle.std.specs.Prelude.{◌≤◌, OnErr};
 ghost use Rattle.lash_model.specs.Faults.{IsFaultCounted};
-ghost use Rattle.lash_model.specs.Text.{text_of};
+ghost use Rattle.automaton_texts.specs.Text.{text_of};
 ghost use Rattle.lash_io.specs.Sinks.{Puts};
 ghost use Rattle.lash_io.specs.Blocks.{Passes};
 ghost use Rattle.canon_text.specs.Heading.{HeadsTable};

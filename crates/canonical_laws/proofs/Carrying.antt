@@ -1,18 +1,15 @@
--- What stands for a set is carried to a table that accepts the same words, and the text tells sets apart.
+-- What stands for a set is carried to a table that accepts the same words, and canonical tables tell sets apart.
 use Rattle.std.proofs.Common.{◌≡◌, ℕ, ◌^◌, ◌<◌, Bool, true, false, List, refl, ◌∙◌, sym, ap, subst}
 use Rattle.std.proofs.Math.IntN.{ℤ}
 use Rattle.std.specs.Prelude.{◌↔◌, All, IsTrue}
 use Rattle.std.specs.List.{AllByRecursion}
 use Rattle.std.proofs.lemmas.List.Elements.{recursion_from_All, All-from_recursion}
-use Rattle.lash_model.specs.Formulas.{Sort}
 use Rattle.lash_model.specs.Words.{values}
 use Rattle.lash_model.specs.Tables.{Table, letters, IsDiagram}
 use Rattle.lash_model.specs.Acceptance.{accepts_word}
 use Rattle.lash_model.specs.Standing.{StandsForWhole}
-use Rattle.lash_model.specs.Text.{text_of}
 use Rattle.canonical_laws.specs.Canonical.{IsCanonical, AcceptSameWords, AgreeOnWords}
 use Rattle.canonical_laws.proofs.Diagrams.{diagrams_unique}
-use Rattle.canonical_laws.proofs.TextReading.{texts_tell}
 
 iff_through : (a b : Bool) (P : Type 0) → a ≡ b → IsTrue a ↔ P → IsTrue b ↔ P
 iff_through a b P e h = (λ x. h.0 (subst IsTrue (sym e) x), λ y. subst IsTrue e (h.1 y))
@@ -54,9 +51,9 @@ standing_agree t P Q sp sq sign w h ls = (λ x. (sq.each sign w h in_t).0 ((sp.e
     in_t : All (λ l. l < letters t) w
     in_t = All-from_recursion (λ l. l < letters t) w ls
 
--- canonical tables of one base and number of tracks, under one list of variables, have one text exactly where their sets agree
-pub same_text : (vs : List (List ℕ × Sort)) (t u : Table) (P Q : List ℤ → ℕ → Type 0) → IsCanonical t → IsCanonical u → t.base ≡ u.base → t.tracks ≡ u.tracks → StandsForWhole t P → StandsForWhole u Q → AgreeOnWords t.base t.tracks P Q → text_of vs t ≡ text_of vs u
-same_text vs t u P Q ct cu base tracks st su agree = ap (text_of vs) (diagrams_unique t u ct cu base tracks (agreeing_accept t u P Q base tracks st su agree))
+-- canonical tables of one base and number of tracks are equal exactly where their sets agree
+pub agreeing_same : (t u : Table) (P Q : List ℤ → ℕ → Type 0) → IsCanonical t → IsCanonical u → t.base ≡ u.base → t.tracks ≡ u.tracks → StandsForWhole t P → StandsForWhole u Q → AgreeOnWords t.base t.tracks P Q → t ≡ u
+agreeing_same t u P Q ct cu base tracks st su agree = diagrams_unique t u ct cu base tracks (agreeing_accept t u P Q base tracks st su agree)
 
-pub text_agrees : (vs : List (List ℕ × Sort)) (t u : Table) (P Q : List ℤ → ℕ → Type 0) → IsCanonical t → IsCanonical u → t.base ≡ u.base → t.tracks ≡ u.tracks → StandsForWhole t P → StandsForWhole u Q → text_of vs t ≡ text_of vs u → AgreeOnWords t.base t.tracks P Q
-text_agrees vs t u P Q ct cu base tracks st su e = standing_agree t P Q st (subst (λ v. StandsForWhole v Q) (sym (texts_tell vs t u ct.table cu.table ct.diagram cu.diagram base tracks e)) su)
+pub same_agree : (t u : Table) (P Q : List ℤ → ℕ → Type 0) → StandsForWhole t P → StandsForWhole u Q → t ≡ u → AgreeOnWords t.base t.tracks P Q
+same_agree t u P Q st su e = standing_agree t P Q st (subst (λ v. StandsForWhole v Q) (sym e) su)

@@ -1,4 +1,3 @@
 pub mod Uniqueness
 pub mod Diagrams
-pub mod TextReading
 pub mod Carrying

@@ -6,5 +6,4 @@ pub mod Meaning
 pub mod Tables
 pub mod Acceptance
 pub mod Standing
-pub mod Text
 pub mod Faults

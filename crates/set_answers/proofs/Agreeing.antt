@@ -7,11 +7,11 @@ use Rattle.lash_model.specs.Meaning.{Solves}
 use Rattle.lash_model.specs.Words.{value, values}
 use Rattle.lash_model.specs.Tables.{Table, IsTable}
 use Rattle.lash_model.specs.Standing.{StandsForWhole, StandsFor, all_int}
-use Rattle.lash_model.specs.Text.{text_of}
+use Rattle.automaton_texts.specs.Text.{text_of}
 use Rattle.canonical_laws.specs.Canonical.{IsCanonical, AgreeOnWords}
 use Rattle.canonical_laws.proofs.Diagrams.{diagrams_unique}
 use Rattle.canonical_laws.proofs.Carrying.{agreeing_accept, standing_agree}
-use Rattle.canonical_laws.proofs.TextReading.{texts_tell}
+use Rattle.automaton_texts.proofs.TextReading.{texts_tell}
 use Rattle.set_answers.specs.Agreement.{Agree, IsCanonicalOf}
 use Rattle.set_answers.proofs.Diagrams.{whole}
 use Rattle.set_answers.proofs.SolvingWords.{word_of, values_vector}

@@ -5,7 +5,7 @@ use Rattle.std.specs.Prelude.{if◌then◌else◌}
 use Rattle.std.specs.Fmt.{signed_decimal}
 use Rattle.std.specs.Ordering.{int_eq}
 use Rattle.std.specs.List.{slice_index_or}
-use Rattle.lash_model.specs.Text.{texts_upto}
+use Rattle.automaton_texts.specs.Text.{texts_upto}
 use Rattle.formula_core.specs.Variables.{names_of}
 use Rattle.fraction_codes.specs.DigitText.{track_text}
 use Rattle.fraction_codes.specs.declared.ratio.Ratio.{Ratio}

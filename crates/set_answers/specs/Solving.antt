@@ -7,7 +7,7 @@ use Rattle.lash_model.specs.Faults.{IsFaultCounted}
 use Rattle.lash_model.specs.Formulas.{Sort}
 use Rattle.lash_model.specs.Lassos.{Lasso}
 use Rattle.lash_model.specs.Tables.{Table}
-use Rattle.lash_model.specs.Text.{texts_upto}
+use Rattle.automaton_texts.specs.Text.{texts_upto}
 use Rattle.lash_io.specs.Sinks.{Holds, HoldsPart}
 use Rattle.formula_core.specs.Variables.{names_of}
 use Rattle.fraction_codes.specs.DigitText.{track_text}

@@ -1,7 +1,7 @@
 -- Solutions as the code holds them, and their lines.
 use Rattle.std.specs.Prelude.{◌≡◌, ℕ, ◌^◌, ◌≤◌, List, length}
 use Rattle.lash_model.specs.Lassos.{IsLasso}
-use Rattle.lash_model.specs.Text.{texts_upto}
+use Rattle.automaton_texts.specs.Text.{texts_upto}
 use Rattle.digit_codes.specs.Reading.{lasso_of}
 use Rattle.set_answers.specs.Solving.{solution_line, solution_text}
 use Rattle.set_answers.specs.declared.lines.Answer.{Answer}

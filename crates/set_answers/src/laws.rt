@@ -6,7 +6,7 @@ ghost use Rattle.lash_model.specs.Lassos.{Lasso, denominator, numerators};
 ghost use Rattle.lash_model.specs.Meaning.{Solves};
 ghost use Rattle.lash_model.specs.Standing.{StandsFor, all_int};
 ghost use Rattle.lash_model.specs.Tables.{Table, IsTable};
-ghost use Rattle.lash_model.specs.Text.{text_of};
+ghost use Rattle.automaton_texts.specs.Text.{text_of};
 ghost use Rattle.set_answers.specs.Agreement.{Agree, IsEmptySet, IsCanonicalOf};
 ghost use Rattle.set_answers.specs.Solving.{IsFixedSolution, IsSolved};
 ghost use Rattle.set_answers.specs.Vectors.{ArePositive, HasVector};

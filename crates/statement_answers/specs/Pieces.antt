@@ -4,7 +4,7 @@ use Rattle.lash_model.specs.Faults.{IsFaultCounted}
 use Rattle.lash_model.specs.Formulas.{Sort, Formula}
 use Rattle.lash_model.specs.Meaning.{Solves}
 use Rattle.lash_model.specs.Tables.{Table}
-use Rattle.lash_model.specs.Text.{text_of}
+use Rattle.automaton_texts.specs.Text.{text_of}
 use Rattle.graph_laws.specs.Exploring.{IsHeavy}
 use Rattle.formula_core.specs.Variables.{sorts_of}
 use Rattle.fraction_codes.specs.Fractions.{IsSmall, IsCommonDenominator}

@@ -1,6 +1,6 @@
 -- The three lines.
 use Rattle.canon_text.proofs.Steps.{go_on, cut}
-use Rattle.lash_model.specs.Text.{counts}
+use Rattle.automaton_texts.specs.Text.{counts}
 use Rattle.canon_text.proofs.lines.put_counts.Goals as goal
 
 pub returns-in_err-put_number_line-clause-bytes : goal.returns-in_err-put_number_line-clause-bytes

@@ -1,6 +1,6 @@
 -- The three lines.
 use Rattle.canon_text.proofs.Steps.{go_on, cut}
-use Rattle.lash_model.specs.Text.{heading}
+use Rattle.automaton_texts.specs.Text.{heading}
 use Rattle.canon_text.proofs.lines.put_heading.Goals as goal
 
 pub returns-in_err-put-clause-bytes : goal.returns-in_err-put-clause-bytes

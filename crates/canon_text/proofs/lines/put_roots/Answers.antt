@@ -1,7 +1,7 @@
 -- The roots of the first sign vectors were put.
 use Rattle.std.proofs.Common.{◌^◌, slice_index_or, ◌<◌, arith}
-use Rattle.lash_model.specs.Text.{number_text}
-use Rattle.lash_model.proofs.Texts.{upto_more, upto_parted}
+use Rattle.automaton_texts.specs.Text.{number_text}
+use Rattle.automaton_texts.proofs.Texts.{upto_more, upto_parted}
 use Rattle.lash_io.proofs.Moving.{moves_none, moves_then}
 use Rattle.canon_text.proofs.Steps.{cut_in_loop}
 use Rattle.canon_text.proofs.lines.put_roots.Goals as goal

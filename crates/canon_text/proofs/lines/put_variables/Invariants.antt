@@ -1,6 +1,6 @@
 -- The first variables were put.
 use Rattle.std.proofs.Common.{◌≤◌, take}
-use Rattle.lash_model.specs.Text.{variables_text}
+use Rattle.automaton_texts.specs.Text.{variables_text}
 use Rattle.lash_io.specs.Blocks.{Moves}
 use Rattle.canon_text.proofs.lines.put_variables.Given as goal
 

@@ -1,7 +1,7 @@
 -- The lines of the first fraction states were put.
 use Rattle.std.proofs.Common.{◌<◌, arith, length}
-use Rattle.lash_model.specs.Text.{frac_line}
-use Rattle.lash_model.proofs.Texts.{upto_more, upto_parted}
+use Rattle.automaton_texts.specs.Text.{frac_line}
+use Rattle.automaton_texts.proofs.Texts.{upto_more, upto_parted}
 use Rattle.lash_io.proofs.Moving.{moves_none, moves_then}
 use Rattle.canon_text.proofs.Steps.{cut_in_loop}
 use Rattle.canon_text.proofs.states.put_frac_lines.Goals as goal

@@ -1,6 +1,6 @@
 -- The lines of the first integer states were put.
 use Rattle.std.proofs.Common.{◌≤◌}
-use Rattle.lash_model.specs.Text.{texts_upto, int_line}
+use Rattle.automaton_texts.specs.Text.{texts_upto, int_line}
 use Rattle.lash_io.specs.Blocks.{Moves}
 use Rattle.canon_text.proofs.states.put_int_lines.Given as goal
 

@@ -1,6 +1,6 @@
 -- The targets of the first letters were put.
 use Rattle.std.proofs.Common.{◌≤◌, ◌+◌, ◌*◌, ◌^◌, slice_index_or}
-use Rattle.lash_model.specs.Text.{texts_upto, number_text}
+use Rattle.automaton_texts.specs.Text.{texts_upto, number_text}
 use Rattle.lash_io.specs.Blocks.{Moves}
 use Rattle.canon_text.proofs.states.put_int_targets.Given as goal
 

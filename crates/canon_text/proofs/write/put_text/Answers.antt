@@ -1,6 +1,6 @@
 -- The five parts of the text.
 use Rattle.canon_text.proofs.Steps.{go_on, cut}
-use Rattle.lash_model.specs.Text.{text_of}
+use Rattle.automaton_texts.specs.Text.{text_of}
 use Rattle.canon_text.proofs.write.put_text.Goals as goal
 
 pub returns-in_err-put_heading-clause-bytes : goal.returns-in_err-put_heading-clause-bytes

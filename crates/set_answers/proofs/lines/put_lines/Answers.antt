@@ -1,6 +1,6 @@
 -- The lines of the first variables were put.
 use Rattle.std.proofs.Common.{◌<◌, arith}
-use Rattle.lash_model.proofs.Texts.{upto_more, upto_parted}
+use Rattle.automaton_texts.proofs.Texts.{upto_more, upto_parted}
 use Rattle.lash_io.proofs.Moving.{moves_none, moves_then}
 use Rattle.canon_text.proofs.Steps.{cut_in_loop}
 use Rattle.set_answers.specs.Writing.{line_of}

@@ -1,6 +1,6 @@
 -- The first lines were put.
 use Rattle.std.proofs.Common.{◌≤◌}
-use Rattle.lash_model.specs.Text.{texts_upto}
+use Rattle.automaton_texts.specs.Text.{texts_upto}
 use Rattle.lash_io.specs.Blocks.{Moves}
 use Rattle.set_answers.specs.Writing.{line_of}
 use Rattle.set_answers.proofs.lines.put_lines.Given as goal

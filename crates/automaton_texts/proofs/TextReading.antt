@@ -10,7 +10,7 @@ use Rattle.std.proofs.lemmas.Bool.{cases_lt}
 use mathlib.Core.Logic.{inl, inr}
 use Rattle.lash_model.specs.Formulas.{Sort}
 use Rattle.lash_model.specs.Tables.{Table, letters, ints, fracs, IsTable, IsDiagram}
-use Rattle.lash_model.specs.Text.{texts_upto, number_text, answer_text, line, number_line, fracs_line, out_text, targets_text, int_line, frac_line, heading, roots_text, counts, text_of}
+use Rattle.automaton_texts.specs.Text.{texts_upto, number_text, answer_text, line, number_line, fracs_line, out_text, targets_text, int_line, frac_line, heading, roots_text, counts, text_of}
 use Rattle.canonical_laws.proofs.Diagrams.{same_lists, same_rows, same_table, same_truth, out_below, no_frac_rows, read_below, place_within}
 
 -- each byte is a digit's code, or above it

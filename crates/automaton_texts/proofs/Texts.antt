@@ -4,7 +4,7 @@ use Rattle.std.proofs.lemmas.List.{append-nil}
 use Rattle.std.proofs.lemmas.Bool.{cases_lt}
 use mathlib.Core.Logic.{◌⊎◌, inl, inr}
 use Rattle.lash_model.specs.Formulas.{Sort}
-use Rattle.lash_model.specs.Text.{texts_upto, sort_text, variables_text}
+use Rattle.automaton_texts.specs.Text.{texts_upto, sort_text, variables_text}
 
 -- a front of a text, with what follows it
 pub record Fronted (whole front : List ℕ) : Type 0 where

@@ -1,6 +1,6 @@
 use Rattle.lash_model.specs.Meaning.{Solves}
-use Rattle.canonical_laws.proofs.Carrying.{same_text, text_agrees}
-use Rattle.canonical_laws.proofs.texts_tell_sets.Goals as goal
+use Rattle.automaton_texts.proofs.TextsOfSets.{same_text, text_agrees}
+use Rattle.automaton_texts.proofs.texts_tell_sets.Goals as goal
 
 pub returns-clause-equal : goal.returns-clause-equal
 returns-clause-equal c = λ vs t u sorts f g. same_text vs t u (Solves sorts f) (Solves sorts g)
