@@ -1,7 +1,7 @@
 //! The lines before those of the states. Own.
 
 ghost use Rattle.std.specs.Prelude.{◌≡◌, ◌≤◌, ◌++◌, ◌^◌, length, codes, OnErr};
-ghost use Rattle.lash_model.specs.Faults.{IsFaultCounted};
+ghost use Rattle.lash_io.specs.Faults.{IsFaultCounted};
 ghost use Rattle.automaton_texts.specs.Text.{variables_text, line, fracs_line, roots_text, heading, counts};
 ghost use Rattle.lash_io.specs.Blocks.{Passes};
 

@@ -1,7 +1,7 @@
 //! The words of a line. Own.
 
 ghost use Rattle.std.specs.Prelude.{◌≤◌, ◌++◌, codes, OnErr};
-ghost use Rattle.lash_model.specs.Faults.{IsFaultCounted};
+ghost use Rattle.lash_io.specs.Faults.{IsFaultCounted};
 ghost use Rattle.automaton_texts.specs.Text.{number_text, answer_text, sort_text, number_line};
 ghost use Rattle.lash_io.specs.Blocks.{Passes};
 ghost use Rattle.formula_core.specs.Variables.{sort_of};

@@ -1,7 +1,7 @@
 //! The lines of the states. Own.
 
 ghost use Rattle.std.specs.Prelude.{◌<◌, ◌≤◌, OnErr};
-ghost use Rattle.lash_model.specs.Faults.{IsFaultCounted};
+ghost use Rattle.lash_io.specs.Faults.{IsFaultCounted};
 ghost use Rattle.lash_model.specs.Tables.{letters, ints, fracs};
 ghost use Rattle.automaton_texts.specs.Text.{texts_upto, out_text, targets_text, int_line, frac_line};
 ghost use Rattle.lash_io.specs.Blocks.{Passes};

@@ -3,7 +3,7 @@
 //! Each cell is read once, and the sink is called once for a few thousand bytes. No memory is taken.
 
 ghost use Rattle.std.specs.Prelude.{◌≤◌, OnErr};
-ghost use Rattle.lash_model.specs.Faults.{IsFaultCounted};
+ghost use Rattle.lash_io.specs.Faults.{IsFaultCounted};
 ghost use Rattle.automaton_texts.specs.Text.{text_of};
 ghost use Rattle.lash_io.specs.Sinks.{Puts};
 ghost use Rattle.lash_io.specs.Blocks.{Passes};

@@ -1,7 +1,7 @@
 //! The text of a track's digits, through one block of fixed size. Own.
 
 ghost use Rattle.std.specs.Prelude.{◌≡◌, ◌*◌, ◌^◌, ◌<◌, ◌≤◌, [], ◌∷◌, All, OnErr};
-ghost use Rattle.lash_model.specs.Faults.{IsFaultCounted};
+ghost use Rattle.lash_io.specs.Faults.{IsFaultCounted};
 ghost use Rattle.lash_model.specs.Lassos.{IsLasso};
 ghost use Rattle.lash_io.specs.Sinks.{Puts};
 ghost use Rattle.lash_io.specs.Blocks.{Passes};

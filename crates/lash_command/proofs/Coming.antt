@@ -12,7 +12,7 @@ use Rattle.lash_io.specs.Sinks.{Holds}
 use Rattle.lash_io.proofs.Holding.{holds_none, holds_then}
 use Rattle.script_pieces.specs.Limits.{script_bytes_limit}
 use Rattle.script_pieces.specs.Taking.{Progress, Takes}
-use Rattle.lash_model.specs.Faults.{IsFaultCounted, last_count}
+use Rattle.lash_io.specs.Faults.{IsFaultCounted, last_count}
 use Rattle.lash_command.specs.Answers.{Answer, IsAnswered, AreAnswered, kept_behind, texts_of, pieces_of, Outside, HasCome}
 
 prepended : (xs ys : List ℕ) (known : Option (List ℕ)) → prepend_known xs (prepend_known ys known) ≡ prepend_known (xs ++ ys) known

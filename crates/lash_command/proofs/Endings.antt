@@ -6,7 +6,7 @@ use Rattle.std.proofs.lemmas.Bool.{true≢false}
 use Rattle.std.proofs.lemmas.List.{length-append, length-map, length-take-le}
 use Rattle.std.proofs.Math.Seq.{take-length, take-append_seam, drop-append_seam}
 use Rattle.parser_laws.proofs.Parts.{same_some, not_none}
-use Rattle.lash_model.specs.Faults.{IsFaultCounted}
+use Rattle.lash_io.specs.Faults.{IsFaultCounted}
 use Rattle.lash_io.specs.Sinks.{Holds}
 use Rattle.script_tokens.specs.Tokens.{PlacedToken}
 use Rattle.script_tokens.specs.Lexing.{tokens_of}

@@ -2,7 +2,7 @@
 use Rattle.std.specs.Prelude.{ℕ, ◌+◌, ◌<◌, ◌≤◌, ◌≡◌, ◌⊎◌, false, List, [], ◌∷◌, ◌++◌, length, map, Option, None, Some, Result, Ok, Err}
 use Rattle.std.specs.List.{concat}
 use Rattle.std.specs.Io.KnownBytes.{prepend_known}
-use Rattle.lash_model.specs.Faults.{IsFaultCounted}
+use Rattle.lash_io.specs.Faults.{IsFaultCounted}
 use Rattle.lash_io.specs.Sinks.{Holds, HoldsPart}
 use Rattle.script_tokens.specs.Lexing.{tokens_of}
 use Rattle.script_statements.specs.Statements.{StatementShape}

@@ -1,7 +1,7 @@
 -- The codes of a run and the lines of refusals. Own.
 use Rattle.std.specs.Prelude.{ℕ, ◌⊎◌, List, [], ◌++◌, Option, codes}
 use Rattle.std.specs.Fmt.{decimal}
-use Rattle.lash_model.specs.Faults.{IsFaultCounted}
+use Rattle.lash_io.specs.Faults.{IsFaultCounted}
 use Rattle.lash_io.specs.Sinks.{Holds, HoldsPart}
 use Rattle.script_names.specs.declared.names.NameFault.{NameFault}
 use Rattle.script_names.specs.declared.names.NameFault.TheVariants.{Unknown, Repeated, Misused}

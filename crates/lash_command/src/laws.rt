@@ -1,7 +1,7 @@
 //! What kept loops are, and how runs end.
 
 ghost use Rattle.std.specs.Prelude.{◌≡◌, ◌<◌, ◌↔◌, ◌++◌, ◌⊎◌, ℕ, true, List, Some, length, ℤ};
-ghost use Rattle.lash_model.specs.Faults.{IsFaultCounted};
+ghost use Rattle.lash_io.specs.Faults.{IsFaultCounted};
 ghost use Rattle.lash_model.specs.Meaning.{holds};
 ghost use Rattle.script_syntax.specs.Trees.{DeclarationShape};
 ghost use Rattle.script_statements.specs.Statements.{TurnShape};

@@ -1,7 +1,7 @@
 //! The line of an ending, on the second sink. Own. It goes out in one block, and takes no memory.
 
 ghost use Rattle.std.specs.Prelude.{◌≡◌, ◌≤◌, ◌++◌, codes, OnErr};
-ghost use Rattle.lash_model.specs.Faults.{IsFaultCounted};
+ghost use Rattle.lash_io.specs.Faults.{IsFaultCounted};
 ghost use Rattle.lash_io.specs.Blocks.{Passes};
 ghost use Rattle.lash_io.specs.Sinks.{Puts};
 ghost use Rattle.lash_command.specs.Lines.{fault_words, place_text, limit_words, refusal_text, refused_line, line_of, IsReported};

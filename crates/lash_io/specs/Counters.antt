@@ -1,7 +1,7 @@
 -- Counters of calls and of faults.
 use Rattle.std.specs.Prelude.{ℕ, ◌+◌}
 use Prim.Native.Nat.{min}
-use Rattle.lash_model.specs.Faults.{last_count}
+use Rattle.lash_io.specs.Faults.{last_count}
 
 -- a counter one further on; it stays at its last value
 abbrev pub counted : ℕ → ℕ

@@ -1,3 +1,4 @@
+pub mod Faults
 pub mod Counters
 pub mod Sources
 pub mod Sinks

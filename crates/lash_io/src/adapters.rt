@@ -4,7 +4,7 @@
 //! error counted.
 ghost use Rattle.std.specs.Prelude.{◌≡◌, ◌≤◌, ◌<◌, None, length, is_ok, IfOk, OnErr, MatchResult};
 ghost use Rattle.std.specs.Io.KnownBytes.{ReadConsumes, WriteAppends};
-ghost use Rattle.lash_model.specs.Faults.{IsFaultCounted};
+ghost use Rattle.lash_io.specs.Faults.{IsFaultCounted};
 ghost use Rattle.lash_io.specs.Counters.{counted};
 ghost use Rattle.lash_io.specs.Sources.{Reads};
 ghost use Rattle.lash_io.specs.Sinks.{Puts};

@@ -3,7 +3,7 @@
 //! A source gives bytes and a sink takes them, each call as many as it can and in order. Both
 //! count their faults, so that a failed call is known to have a cause outside of the program.
 ghost use Rattle.std.specs.Prelude.{◌≤◌, ℕ, List, Option, length, IfOk, OnErr};
-ghost use Rattle.lash_model.specs.Faults.{IsFaultCounted};
+ghost use Rattle.lash_io.specs.Faults.{IsFaultCounted};
 ghost use Rattle.lash_io.specs.Sources.{Reads};
 ghost use Rattle.lash_io.specs.Sinks.{Puts};
 

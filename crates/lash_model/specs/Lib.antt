@@ -6,4 +6,3 @@ pub mod Meaning
 pub mod Tables
 pub mod Acceptance
 pub mod Standing
-pub mod Faults

@@ -1,7 +1,7 @@
 -- What the reader of pieces answers, and what each answer says of the bytes ahead. Own.
 use Rattle.std.specs.Prelude.{ℕ, ◌≡◌, ◌<◌, ◌≤◌, false, List, length, Option, Some, IfSome}
 use Rattle.std.specs.Io.KnownBytes.{prepend_known, IsAtEnd}
-use Rattle.lash_model.specs.Faults.{IsFaultCounted}
+use Rattle.lash_io.specs.Faults.{IsFaultCounted}
 use Rattle.script_pieces.specs.Cuts.{statement_length, piece_length}
 use Rattle.script_pieces.specs.Limits.{IsWithin, IsRefused}
 use Rattle.script_pieces.specs.Taking.{Progress, IsOpen}

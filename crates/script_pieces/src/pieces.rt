@@ -6,7 +6,7 @@
 //! given, and knows nothing of tokens.
 ghost use Rattle.std.specs.Prelude.{◌≡◌, ◌≤◌, ◌<◌, ◌+◌, ℕ, false, [], ◌++◌, length, drop, IfSome, IfOk, IfErr, OnErr, MatchOption, MatchResult};
 ghost use Rattle.std.specs.Io.KnownBytes.{IsAtEnd};
-ghost use Rattle.lash_model.specs.Faults.{IsFaultCounted};
+ghost use Rattle.lash_io.specs.Faults.{IsFaultCounted};
 ghost use Rattle.script_pieces.specs.Cuts.{statement_length, piece_length};
 ghost use Rattle.script_pieces.specs.Limits.{script_bytes_limit, IsRefused};
 ghost use Rattle.script_pieces.specs.Taking.{Progress, IsOpen, Takes, IsNeeded, buffer_bytes};

@@ -3,7 +3,7 @@
 //! Reads fill the room behind the end. Only once there is none are the bytes moved to the front, so a byte is moved about once.
 ghost use Rattle.std.specs.Prelude.{◌≡◌, ◌≤◌, ◌<◌, ◌+◌, [], ◌++◌, length, take, drop, IfOk, OnErr};
 ghost use Rattle.std.specs.Io.KnownBytes.{IsAtEnd};
-ghost use Rattle.lash_model.specs.Faults.{IsFaultCounted};
+ghost use Rattle.lash_io.specs.Faults.{IsFaultCounted};
 
 use lash_io::{Failed, Memory, Source};
 use std::alloc::Global;

@@ -3,7 +3,7 @@ use Rattle.std.specs.Prelude.{◌≡◌, ℕ, ◌+◌, ◌^◌, ◌<◌, ◌≤�
 use Rattle.std.specs.Ordering.{int_eq}
 use Rattle.std.specs.Fmt.{signed_decimal}
 use Rattle.std.specs.List.{slice_index_or}
-use Rattle.lash_model.specs.Faults.{IsFaultCounted}
+use Rattle.lash_io.specs.Faults.{IsFaultCounted}
 use Rattle.lash_model.specs.Formulas.{Sort}
 use Rattle.lash_model.specs.Lassos.{Lasso}
 use Rattle.lash_model.specs.Tables.{Table}

@@ -3,7 +3,7 @@
 ghost use Rattle.std.specs.Prelude.{◌≡◌, ◌≤◌, ◌<◌, false, OnErr, pos};
 ghost use Rattle.std.specs.Ordering.{int_eq};
 ghost use Rattle.std.specs.Fmt.{signed_decimal};
-ghost use Rattle.lash_model.specs.Faults.{IsFaultCounted};
+ghost use Rattle.lash_io.specs.Faults.{IsFaultCounted};
 ghost use Rattle.lash_io.specs.Sinks.{Puts};
 ghost use Rattle.lash_io.specs.Blocks.{Passes};
 ghost use Rattle.digit_codes.specs.Reading.{lasso_of};

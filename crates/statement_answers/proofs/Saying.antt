@@ -8,7 +8,7 @@ use Rattle.lash_model.specs.Meaning.{Solves}
 use Rattle.lash_model.specs.Tables.{Table, IsDiagram}
 use Rattle.lash_model.specs.Standing.{StandsFor, all_int}
 use Rattle.automaton_texts.specs.Text.{text_of}
-use Rattle.lash_model.specs.Faults.{IsFaultCounted}
+use Rattle.lash_io.specs.Faults.{IsFaultCounted}
 use Rattle.lash_io.specs.Sinks.{Holds, HoldsPart}
 use Rattle.formula_core.specs.Variables.{sorts_of}
 use Rattle.canon_text.specs.Heading.{HeadsTable}
