@@ -15,7 +15,7 @@ use Rattle.lash_model.specs.Meaning.{total, holds}
 use Rattle.lash_model.specs.Tables.{Table, letters}
 use Rattle.lash_model.specs.Acceptance.{accepts_word}
 use Rattle.lash_model.specs.Standing.{StandsForWhole}
-use Rattle.linear_atoms.specs.Thresholds.{seeds, passes, letter_total, sign_total, lowered_by, lowered, Among, IsThreshold, AreThresholds, one_if, below, representative, CountsThresholds}
+use Rattle.linear_atoms.specs.Thresholds.{seeds, passes, letter_total, sign_total, lowered_by, lowered, Among, IsThreshold, AreThresholds, one_if, below, representative, StepsByThresholds, CountsThresholds}
 use Rattle.linear_atoms.proofs.ValueTotals.{total_of_values}
 use Rattle.linear_atoms.proofs.Counting.{below_few, step_counts, below-representative, not_parted}
 
@@ -48,7 +48,7 @@ seed_is_threshold r width t ss b a = record { seed = b; word = []; given = a; le
 closed : (r width : ℕ) (t : ℕ → ℤ) (ss ts : List ℤ) → AreThresholds r width t ss ts → (l : ℕ) → l < width → (b : ℤ) → Among b ts → Among (lowered_by r (t l) b) ts
 closed r width t ss ts e l h b a = e.complete (lowered_by r (t l) b) (threshold_lowered r width t ss b l h (among_all (IsThreshold r width t ss) ts b e.sound a))
 
-some_member : (ts : List ℤ) (b : ℤ) → Among b ts → 0 < length ts
+pub some_member : (ts : List ℤ) (b : ℤ) → Among b ts → 0 < length ts
 some_member [] b a = absurd a
 some_member (t ∷ ts) b a = omega arith
 
@@ -56,19 +56,34 @@ bound_given : (kind : Comparison) (b : ℤ) → Among b (seeds kind b)
 bound_given AtMost b = inl refl
 bound_given Equal b = inl refl
 
+-- the list has the seeds
+pub given_threshold : (r width : ℕ) (t : ℕ → ℤ) (ss ts : List ℤ) → AreThresholds r width t ss ts → (b : ℤ) → Among b ss → Among b ts
+given_threshold r width t ss ts e b m = e.complete b (seed_is_threshold r width t ss b m)
+
+-- the bound is a threshold, so there is one
+pub some_threshold : (kind : Comparison) (bound : ℤ) (r width : ℕ) (t : ℕ → ℤ) (ts : List ℤ) → AreThresholds r width t (seeds kind bound) ts → 0 < length ts
+some_threshold kind bound r width t ts e = some_member ts bound (given_threshold r width t (seeds kind bound) ts e bound (bound_given kind bound))
+
 few : (ts : List ℤ) (x : ℤ) → below ts x < length ts + 1
 few ts x = omega (arith, below_few ts x)
 
--- the state after a word counts the thresholds below the total that the word leads to
-walk_counts : (kind : Comparison) (a : Linear) (r n : ℕ) (ts : List ℤ) (t : Table) → 0 < r → CountsThresholds kind a r n ts t → AreThresholds r (r ^ n) (letter_total a.terms r n) (seeds kind a.constant) ts → (x : ℤ) (w : List ℕ) → AllByRecursion (λ l. l < r ^ n) w → go t.rows (r ^ n) (below ts x) w ≡ below ts (run r x (map (letter_total a.terms r n) w))
+-- from a state that counts the thresholds below a value, a word leads to the state of the value that it leads to
+walk_counts : (a : Linear) (r n : ℕ) (ss ts : List ℤ) (t : Table) → 0 < r → 0 < length ts → StepsByThresholds a r n ts t → AreThresholds r (r ^ n) (letter_total a.terms r n) ss ts → (x : ℤ) (w : List ℕ) → AllByRecursion (λ l. l < r ^ n) w → go t.rows (r ^ n) (below ts x) w ≡ below ts (run r x (map (letter_total a.terms r n) w))
 unfolding run
-walk_counts kind a r n ts t h c e x [] letters = refl
-walk_counts kind a r n ts t h c e x (l ∷ w) letters = ap (λ q. go t.rows (r ^ n) q w) (
+walk_counts a r n ss ts t h some c e x [] letters = refl
+walk_counts a r n ss ts t h some c e x (l ∷ w) letters = ap (λ q. go t.rows (r ^ n) q w) (
     c.rows (below ts x) l (few ts x) letters.0
     ∙ step_counts r (letter_total a.terms r n l) ts (representative ts (below ts x)) x h
-    (λ b m. closed r (r ^ n) (letter_total a.terms r n) (seeds kind a.constant) ts e l letters.0 b m)
-    (below-representative ts (below ts x) e.rising (some_member ts a.constant (e.complete a.constant (seed_is_threshold r (r ^ n) (letter_total a.terms r n) (seeds kind a.constant) a.constant (bound_given kind a.constant)))) (few ts x)))
-    ∙ walk_counts kind a r n ts t h c e ((pos r *ℤ x) +ℤ letter_total a.terms r n l) w letters.1
+    (λ b m. closed r (r ^ n) (letter_total a.terms r n) ss ts e l letters.0 b m)
+    (below-representative ts (below ts x) e.rising some (few ts x)))
+    ∙ walk_counts a r n ss ts t h some c e ((pos r *ℤ x) +ℤ letter_total a.terms r n l) w letters.1
+
+-- the state after a sign vector and a word counts the thresholds below the total of their values
+pub steps_count : (a : Linear) (r n : ℕ) (ss ts : List ℤ) (t : Table) → 0 < r → 0 < length ts → StepsByThresholds a r n ts t → AreThresholds r (r ^ n) (letter_total a.terms r n) ss ts → (sign : ℕ) (w : List ℕ) → sign < 2 ^ n → AllByRecursion (λ l. l < r ^ n) w → go t.rows (r ^ n) (slice_index t.roots sign) w ≡ below ts (total a.terms (values r n sign w))
+steps_count a r n ss ts t h some c e sign w s letters =
+    ap (λ q. go t.rows (r ^ n) q w) (c.roots sign s)
+    ∙ walk_counts a r n ss ts t h some c e (neg_ℤ (sign_total a.terms n sign)) w letters
+    ∙ ap (below ts) (sym (total_of_values a.terms r n sign w))
 
 le_true : (a b : ℤ) → a ≤ℤ b → int_le a b ≡ true
 le_true a b h = grind (arith, ints)
@@ -135,26 +150,24 @@ iff_same p q P e h = (λ x. h.0 (subst IsTrue e x), λ y. subst IsTrue (sym e) (
 
 accepts_by : (kind : Comparison) (a : Linear) (r n : ℕ) (ts : List ℤ) (t : Table) → 0 < r → CountsThresholds kind a r n ts t → AreThresholds r (r ^ n) (letter_total a.terms r n) (seeds kind a.constant) ts → (sign : ℕ) (w : List ℕ) → sign < 2 ^ n → AllByRecursion (λ l. l < r ^ n) w → nat_eq (slice_index t.outs (go t.rows (r ^ n) (slice_index t.roots sign) w)) 1 ≡ passes kind (total a.terms (values r n sign w)) a.constant
 accepts_by kind a r n ts t h c e sign w s letters =
-    let x : ℤ = run r (neg_ℤ (sign_total a.terms n sign)) (map (letter_total a.terms r n) w) in
-    let counted : go t.rows (r ^ n) (slice_index t.roots sign) w ≡ below ts x = ap (λ q. go t.rows (r ^ n) q w) (c.roots sign s) ∙ walk_counts kind a r n ts t h c e (neg_ℤ (sign_total a.terms n sign)) w letters in
-    let member : (b : ℤ) → Among b (seeds kind a.constant) → Among b ts = λ b m. e.complete b (seed_is_threshold r (r ^ n) (letter_total a.terms r n) (seeds kind a.constant) b m) in
-    ap (λ q. nat_eq (slice_index t.outs q) 1) counted
+    let x : ℤ = total a.terms (values r n sign w) in
+    let some : 0 < length ts = some_threshold kind a.constant r (r ^ n) (letter_total a.terms r n) ts e in
+    ap (λ q. nat_eq (slice_index t.outs q) 1) (steps_count a r n (seeds kind a.constant) ts t h some c.steps e sign w s letters)
     ∙ ap (λ k. nat_eq k 1) (c.outs (below ts x) (few ts x))
     ∙ one_test (passes kind (representative ts (below ts x)) a.constant)
-    ∙ same_passing kind ts a.constant (representative ts (below ts x)) x member (below-representative ts (below ts x) e.rising (some_member ts a.constant (member a.constant (bound_given kind a.constant))) (few ts x))
-    ∙ ap (λ v. passes kind v a.constant) (sym (total_of_values a.terms r n sign w))
+    ∙ same_passing kind ts a.constant (representative ts (below ts x)) x (given_threshold r (r ^ n) (letter_total a.terms r n) (seeds kind a.constant) ts e) (below-representative ts (below ts x) e.rising some (few ts x))
 
 -- a table that counts the thresholds of an atom stands for it
 pub counting_stands : (kind : Comparison) (a : Linear) (r n : ℕ) (ts : List ℤ) (t : Table) → 0 < r → CountsThresholds kind a r n ts t → AreThresholds r (r ^ n) (letter_total a.terms r n) (seeds kind a.constant) ts → StandsForWhole t (holds (atom kind a))
 counting_stands kind a r n ts t h c e = record {
   diagram = c.diagram;
-  each = λ sign w s ls. each sign w (subst (λ k. sign < 2 ^ k) c.tracks s) (recursion_from_All (λ l. l < r ^ n) w (subst (λ k. All (λ l. l < k) w) (ap (λ b. b ^ t.tracks) c.base ∙ ap (λ k. r ^ k) c.tracks) ls));
+  each = λ sign w s ls. each sign w (subst (λ k. sign < 2 ^ k) c.steps.tracks s) (recursion_from_All (λ l. l < r ^ n) w (subst (λ k. All (λ l. l < k) w) (ap (λ b. b ^ t.tracks) c.steps.base ∙ ap (λ k. r ^ k) c.steps.tracks) ls));
 }
   where
     shape : t.base ^ t.tracks ≡ r ^ n
-    shape = ap (λ b. b ^ t.tracks) c.base ∙ ap (λ k. r ^ k) c.tracks
+    shape = ap (λ b. b ^ t.tracks) c.steps.base ∙ ap (λ k. r ^ k) c.steps.tracks
 
     each : (sign : ℕ) (w : List ℕ) → sign < 2 ^ n → AllByRecursion (λ l. l < r ^ n) w → IsTrue (accepts_word t sign w) ↔ holds (atom kind a) (values t.base t.tracks sign w) 1
     each sign w s ls = iff_same (accepts_word t sign w) (passes kind (total a.terms (values t.base t.tracks sign w)) a.constant) (holds (atom kind a) (values t.base t.tracks sign w) 1)
-        (ap (λ k. nat_eq (slice_index t.outs (go t.rows k (slice_index t.roots sign) w)) 1) shape ∙ accepts_by kind a r n ts t h c e sign w s ls ∙ ap (λ v. passes kind (total a.terms v) a.constant) (sym (ap (λ b. values b t.tracks sign w) c.base ∙ ap (λ k. values r k sign w) c.tracks)))
+        (ap (λ k. nat_eq (slice_index t.outs (go t.rows k (slice_index t.roots sign) w)) 1) shape ∙ accepts_by kind a r n ts t h c e sign w s ls ∙ ap (λ v. passes kind (total a.terms v) a.constant) (sym (ap (λ b. values b t.tracks sign w) c.steps.base ∙ ap (λ k. values r k sign w) c.steps.tracks)))
         (passing_means kind a (values t.base t.tracks sign w))

@@ -1,11 +1,11 @@
 -- A heavy atom has no table within the limit: distinct thresholds are no more than all thresholds.
-use Rattle.std.proofs.Common.{◌≡◌, ℕ, zero, suc, ◌+◌, ◌*◌, ◌^◌, ◌<◌, ◌≤◌, List, [], ◌∷◌, length, arith, sym, ◌∙◌}
+use Rattle.std.proofs.Common.{◌≡◌, ℕ, suc, ◌+◌, ◌*◌, ◌^◌, ◌<◌, ◌≤◌, List, [], ◌∷◌, length, arith, sym, ◌∙◌}
 use Rattle.std.proofs.Math.IntN.{ℤ}
 use Rattle.std.specs.List.{slice_index_or, AllPairs}
 use mathlib.Core.Logic.{inl, inr}
 use Rattle.lash_model.specs.Formulas.{Linear, Comparison}
 use Rattle.lash_model.specs.Tables.{Table}
-use Rattle.linear_atoms.specs.Thresholds.{Among, atom_cells, IsAtomTable, IsHeavyAtom}
+use Rattle.linear_atoms.specs.Thresholds.{seeds, letter_total, Among, AreThresholds, atom_cells, TooManyThresholds, IsAtomTable, IsHeavyAtom}
 
 -- the list without a member
 abbrev without : (z : ℤ) (ys : List ℤ) → Among z ys → List ℤ
@@ -38,17 +38,17 @@ no_longer (x ∷ xs) ys distinct members =
           (λ i d inside. among_without x (slice_index_or xs i d) ys first (members (suc i) d (omega (arith, inside))) (distinct 0 (suc i) d (omega arith) (omega (arith, inside)))),
     )
 
-cells_grow : (width a b : ℕ) → a ≤ b → atom_cells width a ≤ atom_cells width b
-cells_grow width zero zero h = omega arith
-cells_grow width zero (suc b) h = omega (arith, cells_grow width zero b (omega arith))
-cells_grow width (suc a) zero h = absurd (omega (arith, h))
-cells_grow width (suc a) (suc b) h = omega (arith, cells_grow width a b (omega (arith, h)))
+times_grow : (a b w : ℕ) → a ≤ b → a * w ≤ b * w
+times_grow a b w h = grind arith
+
+-- if distinct thresholds are too many, all thresholds are
+pub all_too_many : (r width : ℕ) (total : ℕ → ℤ) (seeds ts : List ℤ) (fracs limit : ℕ) → TooManyThresholds r width total seeds fracs limit → AreThresholds r width total seeds ts → limit < atom_cells width (length ts) fracs
+all_too_many r width total seeds ts fracs limit many all = omega (
+  arith,
+  many.over,
+  times_grow (length many.found + 1 + fracs) (length ts + 1 + fracs) (width + 1)
+      (omega (arith, no_longer many.found ts many.distinct (λ i d inside. all.complete (slice_index_or many.found i d) (many.sound i d inside)))),
+)
 
 pub not_heavy_with_table : (kind : Comparison) (a : Linear) (r n limit : ℕ) (t : Table) → IsHeavyAtom kind a r n limit → IsAtomTable kind a r n limit t → ⊥
-not_heavy_with_table kind a r n limit t heavy made = omega (
-  arith,
-  heavy.over,
-  made.within,
-  cells_grow (r ^ n) (length heavy.found) (length made.found)
-      (no_longer heavy.found made.found heavy.distinct (λ i d inside. made.thresholds.complete (slice_index_or heavy.found i d) (heavy.sound i d inside))),
-)
+not_heavy_with_table kind a r n limit t heavy made = omega (arith, made.within, all_too_many r (r ^ n) (letter_total a.terms r n) (seeds kind a.constant) made.found 0 limit heavy made.thresholds)

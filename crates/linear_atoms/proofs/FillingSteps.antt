@@ -1,6 +1,6 @@
 -- Filling an atom's rows, entry by entry.
-use Rattle.std.proofs.Common.{◌≡◌, ℕ, zero, suc, ◌+◌, ◌*◌, ◌^◌, ◌≤◌, ◌<◌, List, [], ◌∷◌, length, arith, refl, ◌∙◌, sym, ap, subst}
-use Rattle.std.proofs.Math.IntN.{ℤ, pos, neg_ℤ, ◌+ℤ◌, ◌*ℤ◌}
+use Rattle.std.proofs.Common.{◌≡◌, ℕ, ◌+◌, ◌*◌, ◌^◌, ◌≤◌, ◌<◌, List, [], ◌∷◌, length, arith, refl, ◌∙◌, sym, ap, subst}
+use Rattle.std.proofs.Math.IntN.{ℤ}
 use Rattle.std.proofs.Math.Nat.{pow-le-pow_left}
 use Rattle.std.specs.Prelude.{slice_set}
 use Rattle.std.specs.List.{slice_index_or}
@@ -8,13 +8,13 @@ use Rattle.std.proofs.lemmas.Bool.{cases_lt}
 use Rattle.std.proofs.lemmas.List.{get_or-set_same, get_or-set_other}
 use Rattle.std.proofs.lemmas.Nat.{same_from_place}
 use mathlib.Core.Logic.{inl, inr}
-use Rattle.lash_model.specs.Formulas.{Linear, Comparison}
+use Rattle.lash_model.specs.Formulas.{Linear}
 use Rattle.lash_model.specs.Tables.{IsTable}
 use Rattle.linear_atoms.specs.Thresholds.{letter_total, sign_total}
 use Rattle.lash_model.specs.Letters.{sign_bit}
 use Rattle.step_tables.specs.Kept.{Kept}
 use Rattle.linear_atoms.specs.Closing.{entry}
-use Rattle.linear_atoms.specs.Filling.{target_of, AreRows, IsBlankShape, IsWide, IsFilling}
+use Rattle.linear_atoms.specs.Filling.{target_of, AreRows, AreStepsFilled}
 
 -- there are no more sign vectors than letters
 pub few_signs : (base n : ℕ) → 2 ≤ base → base ^ n ≤ 4096 → 2 ^ n ≤ 4096
@@ -44,13 +44,12 @@ rows_more base totals ts state l rows to r inside place is = record {
         ap (λ p. slice_index_or (slice_set rows (state * length totals + l) to) p 0) e ∙ get_or-set_same rows (state * length totals + l) to 0 place ∙ is ∙ ap (λ x. target_of base ts x (entry totals l)) (sym same.0) ∙ ap (λ x. target_of base ts c (entry totals x)) (sym same.1)
 
 -- the kept table with one target written
-pub filling_row : (kind : Comparison) (a : Linear) (base n : ℕ) (totals ts : List ℤ) (roots outs state l to : ℕ) (k : Kept) → IsFilling kind a base n totals ts roots (state * length totals + l) outs k → IsTable (record k.table { rows = slice_set k.table.rows (state * k.table.base ^ k.table.tracks + l) to }) → state < length ts + 1 → l < length totals → length totals ≡ base ^ n → to ≡ target_of base ts state (entry totals l) → IsFilling kind a base n totals ts roots (state * length totals + (l + 1)) outs (record k { table = record k.table { rows = slice_set k.table.rows (state * k.table.base ^ k.table.tracks + l) to } })
-filling_row kind a base n totals ts roots outs state l to k f table state_in l_in width is = record {
-  shape = record { base_is = f.shape.base_is; tracks_are = f.shape.tracks_are; diagram = f.shape.diagram; states = f.shape.states; table = table };
+pub filling_row : (a : Linear) (base n : ℕ) (totals ts : List ℤ) (fracs roots state l to : ℕ) (k : Kept) → AreStepsFilled a base n totals ts fracs roots (state * length totals + l) k → IsTable (record k.table { rows = slice_set k.table.rows (state * k.table.base ^ k.table.tracks + l) to }) → state < length ts + 1 → l < length totals → length totals ≡ base ^ n → to ≡ target_of base ts state (entry totals l) → AreStepsFilled a base n totals ts fracs roots (state * length totals + (l + 1)) (record k { table = record k.table { rows = slice_set k.table.rows (state * k.table.base ^ k.table.tracks + l) to } })
+filling_row a base n totals ts fracs roots state l to k f table state_in l_in width is = record {
+  shape = record { base_is = f.shape.base_is; tracks_are = f.shape.tracks_are; states = f.shape.states; fractions = f.shape.fractions; table = table };
   wide = record { roots = f.wide.roots; rows = f.wide.rows; outs = f.wide.outs };
   roots_filled = f.roots_filled;
   rows_filled = subst (λ w. AreRows base totals ts (state * length totals + (l + 1)) (slice_set k.table.rows (state * w + l) to)) letters_are (rows_more base totals ts state l k.table.rows to f.rows_filled l_in (subst (λ m. state * length totals + l < m) (sym rows_are) (place_within state (length ts + 1) (length totals) l state_in l_in)) is);
-  outs_filled = f.outs_filled;
 }
   where
     letters_are : length totals ≡ k.table.base ^ k.table.tracks

@@ -1,20 +1,18 @@
 -- From the totals that were computed to the totals of the atom, and from a filled table to one that counts thresholds.
-use Rattle.std.proofs.Common.{◌≡◌, ℕ, zero, suc, ◌+◌, ◌-◌, ◌*◌, ◌^◌, ◌≤◌, ◌<◌, List, [], ◌∷◌, length, arith, refl, ◌∙◌, sym, ap, subst}
-use Rattle.std.proofs.Math.IntN.{ℤ, pos, ◌+ℤ◌, ◌-ℤ◌, ◌*ℤ◌}
-use Rattle.std.specs.Prelude.{All}
+use Rattle.std.proofs.Common.{◌≡◌, ℕ, ◌+◌, ◌-◌, ◌*◌, ◌^◌, ◌≤◌, ◌<◌, List, [], ◌∷◌, length, arith, refl, ◌∙◌, sym, ap, subst}
+use Rattle.std.proofs.Math.IntN.{ℤ}
 use Rattle.std.specs.List.{slice_index_or, AllByRecursion}
 use Rattle.std.proofs.lemmas.List.Elements.{All-weaker}
-use mathlib.Core.Logic.{inl}
-use Rattle.lash_model.specs.Formulas.{Linear, Comparison, AtMost, Equal, atom}
+use Rattle.lash_model.specs.Formulas.{Linear, Comparison, atom}
 use Rattle.lash_model.specs.Meaning.{holds}
 use Rattle.lash_model.specs.Tables.{Table}
 use Rattle.lash_model.specs.Standing.{StandsForWhole}
-use Rattle.linear_atoms.specs.Thresholds.{seeds, letter_total, lowered_by, lowered, Among, IsThreshold, AreThresholds, atom_cells, TooManyThresholds, CountsThresholds, IsAtomTable, IsHeavyAtom, below, representative}
-use Rattle.linear_atoms.proofs.AtomTables.{counting_stands, seed_is_threshold}
+use Rattle.linear_atoms.specs.Thresholds.{seeds, letter_total, lowered_by, lowered, IsThreshold, AreThresholds, atom_cells, StepsByThresholds, CountsThresholds, IsAtomTable, IsHeavyAtom}
+use Rattle.linear_atoms.proofs.AtomTables.{counting_stands, some_threshold}
 use Rattle.step_tables.specs.Kept.{Kept}
 use Rattle.linear_atoms.specs.Closing.{entry, IsOverfull}
 use Rattle.linear_atoms.specs.Totals.{AreTotals}
-use Rattle.linear_atoms.specs.Filling.{target_of, IsFilling}
+use Rattle.linear_atoms.specs.Filling.{target_of, AreStepsFilled, IsFilling}
 use Rattle.linear_atoms.proofs.FillingSteps.{place_within}
 
 lowered_same : (r width : ℕ) (f g : ℕ → ℤ) → ((l : ℕ) → l < width → f l ≡ g l) → (b : ℤ) (w : List ℕ) → AllByRecursion (λ l. l < width) w → lowered r f b w ≡ lowered r g b w
@@ -50,45 +48,43 @@ atom_heavy kind a r n totals room limit t o h = record {
   over = more_cells (length o.found) room (r ^ n) limit o.over h;
 }
   where
-    more_cells : (count room width limit : ℕ) → room < count → limit < (room + 2) * (width + 1) → limit < (count + 1) * (width + 1)
+    more_cells : (count room width limit : ℕ) → room < count → limit < (room + 2) * (width + 1) → limit < atom_cells width count 0
     more_cells count room width limit h k = grind arith
 
--- a filled table counts the thresholds
-pub filled_counts : (kind : Comparison) (a : Linear) (r n : ℕ) (totals ts : List ℤ) (k : Kept) → AreTotals a.terms r n totals → IsFilling kind a r n totals ts (2 ^ n) ((length ts + 1) * length totals) (length ts + 1) k → CountsThresholds kind a r n ts k.table
-filled_counts kind a r n totals ts k t f = record {
+-- a table with all its steps filled steps by the thresholds
+pub filled_steps : (a : Linear) (r n : ℕ) (totals ts : List ℤ) (fracs : ℕ) (k : Kept) → AreTotals a.terms r n totals → AreStepsFilled a r n totals ts fracs (2 ^ n) ((length ts + 1) * length totals) k → StepsByThresholds a r n ts k.table
+filled_steps a r n totals ts fracs k t f = record {
   base = f.shape.base_is;
   tracks = f.shape.tracks_are;
-  diagram = f.shape.diagram;
   states = f.shape.states;
   roots = f.roots_filled.each;
   rows = λ c l c_in l_in. subst (λ w. slice_index_or k.table.rows (c * w + l) 0 ≡ target_of r ts c (letter_total a.terms r n l)) t.count
       (f.rows_filled.each c l c_in (as_total l l_in) (place_within c (length ts + 1) (length totals) l c_in (as_total l l_in)) ∙ ap (target_of r ts c) (t.each l l_in));
-  outs = f.outs_filled.each;
 }
   where
     as_total : (l : ℕ) → l < r ^ n → l < length totals
     as_total l h = subst (λ w. l < w) (sym t.count) h
 
-some_member : (ts : List ℤ) (b : ℤ) → Among b ts → 0 < length ts
-some_member [] b m = absurd m
-some_member (t ∷ ts) b m = omega arith
+no_entries : (xs : List ℕ) → length xs ≡ 0 → xs ≡ []
+no_entries [] e = refl
+no_entries (x ∷ xs) e = absurd (omega (arith, e))
 
-bound_given : (kind : Comparison) (b : ℤ) → Among b (seeds kind b)
-bound_given AtMost b = inl refl
-bound_given Equal b = inl refl
+-- a filled table without fraction states counts the thresholds
+pub filled_counts : (kind : Comparison) (a : Linear) (r n : ℕ) (totals ts : List ℤ) (k : Kept) → AreTotals a.terms r n totals → IsFilling kind a r n totals ts 0 (length ts + 1) k → CountsThresholds kind a r n ts k.table
+filled_counts kind a r n totals ts k t f = record {
+  steps = filled_steps a r n totals ts 0 k t f.steps;
+  diagram = no_entries k.table.colours f.steps.shape.fractions;
+  outs = f.outs_filled.each;
+}
 
--- the bound is a threshold, so there is one
-pub some_threshold : (kind : Comparison) (bound : ℤ) (r width : ℕ) (total : ℕ → ℤ) (ts : List ℤ) → AreThresholds r width total (seeds kind bound) ts → 0 < length ts
-some_threshold kind bound r width total ts a = some_member ts bound (a.complete bound (seed_is_threshold r width total (seeds kind bound) bound (bound_given kind bound)))
-
-few_cells : (count room width limit : ℕ) → 0 < count → count ≤ room → (0 < room → (room + 1) * (width + 1) ≤ limit) → (count + 1) * (width + 1) ≤ limit
-few_cells count room width limit some h fits = at_most (count + 1) (room + 1) (width + 1) limit (omega (arith, h)) (fits (omega (arith, some, h)))
+few_cells : (count room width limit : ℕ) → 0 < count → count ≤ room → (0 < room → (room + 1) * (width + 1) ≤ limit) → atom_cells width count 0 ≤ limit
+few_cells count room width limit some h fits = at_most (count + 1 + 0) (room + 1) (width + 1) limit (omega (arith, h)) (fits (omega (arith, some, h)))
   where
     at_most : (a b w limit : ℕ) → a ≤ b → b * w ≤ limit → a * w ≤ limit
     at_most a b w limit h k = grind arith
 
 -- the filled table is the atom's
-pub atom_table : (kind : Comparison) (a : Linear) (r n : ℕ) (totals ts : List ℤ) (room limit : ℕ) (k : Kept) → AreTotals a.terms r n totals → AreThresholds r (length totals) (entry totals) (seeds kind a.constant) ts → length ts ≤ room → (0 < room → (room + 1) * (r ^ n + 1) ≤ limit) → IsFilling kind a r n totals ts (2 ^ n) ((length ts + 1) * length totals) (length ts + 1) k → IsAtomTable kind a r n limit k.table
+pub atom_table : (kind : Comparison) (a : Linear) (r n : ℕ) (totals ts : List ℤ) (room limit : ℕ) (k : Kept) → AreTotals a.terms r n totals → AreThresholds r (length totals) (entry totals) (seeds kind a.constant) ts → length ts ≤ room → (0 < room → (room + 1) * (r ^ n + 1) ≤ limit) → IsFilling kind a r n totals ts 0 (length ts + 1) k → IsAtomTable kind a r n limit k.table
 atom_table kind a r n totals ts room limit k t e few fits f = record {
   found = ts;
   thresholds = atom_thresholds a.terms r n totals (seeds kind a.constant) ts t e;

@@ -7,9 +7,9 @@ use Rattle.linear_atoms.specs.Thresholds.{lowered_by, Among, IsThreshold}
 abbrev pub entry : List ℤ → ℕ → ℤ
 entry xs i = slice_index_or xs i (pos 0)
 
--- thresholds stay in this window, whatever the letters
+-- thresholds stay in this window, whatever the letters: a seed is at most a constant, the coefficients of an atom and 1 away from 0
 abbrev pub IsSmall : ℤ → Type 0
-IsSmall z = unsigned_abs z ≤ 2 ^ 40 + 1
+IsSmall z = unsigned_abs z ≤ 2 ^ 40 + 2 ^ 24 + 1
 
 -- the totals of letters are in this window
 abbrev pub IsSmallTotal : ℕ → ℤ → Type 0

@@ -1,5 +1,5 @@
 -- Tables of atoms as far as they are filled.
-use Rattle.std.specs.Prelude.{ℕ, ◌+◌, ◌-◌, ◌*◌, ◌^◌, ◌<◌, ◌≤◌, ◌≡◌, List, [], length, All, ℤ, pos, neg_ℤ, ◌+ℤ◌, ◌*ℤ◌, ◌<ℤ◌}
+use Rattle.std.specs.Prelude.{ℕ, ◌+◌, ◌-◌, ◌*◌, ◌^◌, ◌<◌, ◌≤◌, ◌≡◌, List, length, All, ℤ, pos, neg_ℤ, ◌+ℤ◌, ◌*ℤ◌, ◌<ℤ◌}
 use Rattle.std.specs.List.{slice_index_or, AllPairs}
 use Rattle.lash_model.specs.Formulas.{Linear, IsInside, Comparison}
 use Rattle.lash_model.specs.Tables.{Table, IsTable}
@@ -28,12 +28,12 @@ pub record AreRoots (terms : List (ℕ × ℤ)) (tracks : ℕ) (ts : List ℤ) (
 pub record AreOuts (kind : Comparison) (bound : ℤ) (ts : List ℤ) (filled : ℕ) (outs : List ℕ) : Type 0 where
   pub each : (c : ℕ) → c < filled → slice_index_or outs c 0 ≡ one_if (passes kind (representative ts c) bound)
 
--- a diagram of that base, number of tracks and number of integer states
-pub record IsBlankShape (base tracks ints : ℕ) (t : Table) : Type 0 where
+-- a table of that base, number of tracks, and numbers of integer and of fraction states
+pub record IsBlankShape (base tracks ints fracs : ℕ) (t : Table) : Type 0 where
   pub base_is : t.base ≡ base
   pub tracks_are : t.tracks ≡ tracks
-  pub diagram : t.colours ≡ []
   pub states : length t.outs ≡ ints
+  pub fractions : length t.colours ≡ fracs
   pub table : IsTable t
 
 -- bounds of cells are those of a plain table
@@ -42,8 +42,8 @@ pub record IsWide (k : Kept) : Type 0 where
   pub rows : k.bounds.rows ≡ 2 ^ 32
   pub outs : k.bounds.outs ≡ 2 ^ 32
 
--- what a table is filled from: the base and the number of tracks, an atom inside the limits, the totals of its letters, and its
--- thresholds, rising
+-- what the steps of a table are filled from: the base and the number of tracks, an atom inside the limits, the totals of its letters,
+-- and its thresholds, rising
 pub record IsPlan (base tracks : ℕ) (a : Linear) (totals ts : List ℤ) : Type 0 where
   pub low : 2 ≤ base
   pub high : base ≤ 16
@@ -57,10 +57,14 @@ pub record IsPlan (base tracks : ℕ) (a : Linear) (totals ts : List ℤ) : Type
   pub few : length ts < 2 ^ 31
   pub small : All IsSmall ts
 
--- the kept table of that shape, with so many roots, rows and outputs filled
-pub record IsFilling (kind : Comparison) (a : Linear) (base tracks : ℕ) (totals ts : List ℤ) (roots rows outs : ℕ) (k : Kept) : Type 0 where
-  pub shape : IsBlankShape base tracks (length ts + 1) k.table
+-- the kept table, with so many fraction states, and with so many roots and entries of rows filled
+pub record AreStepsFilled (a : Linear) (base tracks : ℕ) (totals ts : List ℤ) (fracs roots rows : ℕ) (k : Kept) : Type 0 where
+  pub shape : IsBlankShape base tracks (length ts + 1) fracs k.table
   pub wide : IsWide k
   pub roots_filled : AreRoots a.terms tracks ts roots k.table.roots
   pub rows_filled : AreRows base totals ts rows k.table.rows
+
+-- the kept table has all roots and rows filled, and so many outputs
+pub record IsFilling (kind : Comparison) (a : Linear) (base tracks : ℕ) (totals ts : List ℤ) (fracs outs : ℕ) (k : Kept) : Type 0 where
+  pub steps : AreStepsFilled a base tracks totals ts fracs (2 ^ tracks) ((length ts + 1) * length totals) k
   pub outs_filled : AreOuts kind a.constant ts outs k.table.outs

@@ -53,16 +53,17 @@ pub record AreThresholds (r width : ℕ) (total : ℕ → ℤ) (seeds ts : List 
   pub sound : All (IsThreshold r width total seeds) ts
   pub complete : (beta : ℤ) → IsThreshold r width total seeds beta → Among beta ts
 
--- the cells of a table of that many thresholds: a state more than there are thresholds, each with a row and an output
-abbrev pub atom_cells : ℕ → ℕ → ℕ
-atom_cells width count = (count + 1) * (width + 1)
+-- the cells of a table of that many thresholds and so many fraction states: an integer state more than there are thresholds, and each
+-- state with a row and an output or a colour
+abbrev pub atom_cells : ℕ → ℕ → ℕ → ℕ
+atom_cells width count fracs = (count + 1 + fracs) * (width + 1)
 
--- distinct thresholds are so many that their table passes the limit
-pub record TooManyThresholds (r width : ℕ) (total : ℕ → ℤ) (seeds : List ℤ) (limit : ℕ) : Type 0 where
+-- distinct thresholds are so many that their table, with so many fraction states, passes the limit
+pub record TooManyThresholds (r width : ℕ) (total : ℕ → ℤ) (seeds : List ℤ) (fracs limit : ℕ) : Type 0 where
   pub found : List ℤ
   pub distinct : AllPairs (λ x y. x ≡ y → ⊥) found
   pub sound : All (IsThreshold r width total seeds) found
-  pub over : limit < atom_cells width (length found)
+  pub over : limit < atom_cells width (length found) fracs
 
 abbrev pub one_if : Bool → ℕ
 one_if true = 1
@@ -77,24 +78,28 @@ below (t ∷ ts) value = one_if (int_lt t value) + below ts value
 abbrev pub representative : List ℤ → ℕ → ℤ
 representative ts count = slice_index_or ts count (slice_index_or ts (length ts - 1) (pos 0) +ℤ pos 1)
 
--- the table whose states count thresholds: a root counts those below minus the sign bits' total, a letter leads from a value to
--- r * value + total, and an output compares a value with the bound
-pub record CountsThresholds (kind : Comparison) (a : Linear) (r n : ℕ) (ts : List ℤ) (t : Table) : Type 0 where
+-- the steps of a table whose states count thresholds: a root counts those below minus the sign bits' total, and a letter leads from a
+-- value to r * value + total
+pub record StepsByThresholds (a : Linear) (r n : ℕ) (ts : List ℤ) (t : Table) : Type 0 where
   pub base : t.base ≡ r
   pub tracks : t.tracks ≡ n
-  pub diagram : IsDiagram t
   pub states : length t.outs ≡ length ts + 1
   pub roots : (sign : ℕ) → sign < 2 ^ n → slice_index_or t.roots sign 0 ≡ below ts (neg_ℤ (sign_total a.terms n sign))
   pub rows : (c l : ℕ) → c < length ts + 1 → l < r ^ n → slice_index_or t.rows (c * r ^ n + l) 0 ≡ below ts ((pos r *ℤ representative ts c) +ℤ letter_total a.terms r n l)
+
+-- the diagram whose states count thresholds, and whose outputs compare a value with the bound
+pub record CountsThresholds (kind : Comparison) (a : Linear) (r n : ℕ) (ts : List ℤ) (t : Table) : Type 0 where
+  pub steps : StepsByThresholds a r n ts t
+  pub diagram : IsDiagram t
   pub outs : (c : ℕ) → c < length ts + 1 → slice_index_or t.outs c 0 ≡ one_if (passes kind (representative ts c) a.constant)
 
--- the table of an atom: it counts exactly the atom's thresholds, and its cells are within the limit
+-- the table of an atom over integers: it counts exactly the atom's thresholds, and its cells are within the limit
 pub record IsAtomTable (kind : Comparison) (a : Linear) (r n limit : ℕ) (t : Table) : Type 0 where
   pub found : List ℤ
   pub thresholds : AreThresholds r (r ^ n) (letter_total a.terms r n) (seeds kind a.constant) found
   pub counts : CountsThresholds kind a r n found t
-  pub within : atom_cells (r ^ n) (length found) ≤ limit
+  pub within : atom_cells (r ^ n) (length found) 0 ≤ limit
 
--- the table of an atom has more cells than the limit
+-- the table of an atom over integers has more cells than the limit
 abbrev pub IsHeavyAtom : Comparison → Linear → ℕ → ℕ → ℕ → Type 0
-IsHeavyAtom kind a r n limit = TooManyThresholds r (r ^ n) (letter_total a.terms r n) (seeds kind a.constant) limit
+IsHeavyAtom kind a r n limit = TooManyThresholds r (r ^ n) (letter_total a.terms r n) (seeds kind a.constant) 0 limit

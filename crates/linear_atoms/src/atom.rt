@@ -9,9 +9,9 @@ ghost use Rattle.lash_model.specs.Standing.{StandsForWhole};
 ghost use Rattle.linear_atoms.specs.Thresholds.{seeds, IsAtomTable, IsHeavyAtom};
 ghost use Rattle.linear_atoms.specs.Closing.{IsSmall};
 ghost use Rattle.linear_atoms.specs.Kinds.{comparison_of};
-ghost use Rattle.linear_atoms.specs.Filling.{IsPlan, IsFilling};
+ghost use Rattle.linear_atoms.specs.Filling.{IsPlan, AreStepsFilled, IsFilling};
 
-use crate::filling::{Plan, fill};
+use crate::filling::{Plan, fill_outs, fill_steps};
 use crate::kind::AtomKind;
 use crate::thresholds::thresholds;
 use crate::totals::letter_totals;
@@ -97,6 +97,7 @@ pub fn atom_int(
         atom,
         totals: &totals,
         thresholds: &thresholds,
+        fracs: 0,
     };
     match table_of(alloc, &plan) {
         Ok(table) => Ok(table),
@@ -104,18 +105,34 @@ pub fn atom_int(
     }
 }
 
-/// The table that is filled from a plan.
+/// The table of a plan without fraction states.
 fn table_of(alloc: Global, plan: &Plan) -> Result<Table<Plain>, BuildError>
     requires plan { IsPlan plan.now.base plan.now.tracks plan.now.atom.now plan.now.totals.now plan.now.thresholds.now }
+    requires whole { plan.now.fracs ≡ 0 }
     requires cells { (length plan.now.thresholds.now + 1) * (plan.now.base ^ plan.now.tracks + 1) ≤ 16777216 }
-    ensures filled { IfOk result (λ t. IsFilling (comparison_of plan.now.kind) plan.now.atom.now plan.now.base plan.now.tracks plan.now.totals.now plan.now.thresholds.now (2 ^ plan.now.tracks) ((length plan.now.thresholds.now + 1) * length plan.now.totals.now) (length plan.now.thresholds.now + 1) t) }
+    ensures filled { IfOk result (λ t. IsFilling (comparison_of plan.now.kind) plan.now.atom.now plan.now.base plan.now.tracks plan.now.totals.now plan.now.thresholds.now plan.now.fracs (length plan.now.thresholds.now + 1) t) }
+    ensures never { IfErr result (λ e. e ≡ BuildError.Memory) }
+{
+    let mut table = match stepping(alloc, plan) {
+        Ok(table) => table,
+        Err(error) => return Err(error),
+    };
+    fill_outs(plan, &mut table);
+    Ok(table)
+}
+
+/// The table of a plan with all its steps, and with outputs, targets and colours of 0.
+fn stepping(alloc: Global, plan: &Plan) -> Result<Table<Plain>, BuildError>
+    requires plan { IsPlan plan.now.base plan.now.tracks plan.now.atom.now plan.now.totals.now plan.now.thresholds.now }
+    requires cells { (length plan.now.thresholds.now + 1 + plan.now.fracs) * (plan.now.base ^ plan.now.tracks + 1) ≤ 16777216 }
+    ensures steps { IfOk result (λ t. AreStepsFilled plan.now.atom.now plan.now.base plan.now.tracks plan.now.totals.now plan.now.thresholds.now plan.now.fracs (2 ^ plan.now.tracks) ((length plan.now.thresholds.now + 1) * length plan.now.totals.now) t) }
     ensures never { IfErr result (λ e. e ≡ BuildError.Memory) }
 {
     let states = plan.thresholds.len() as u32 + 1;
-    let mut table = match Table::blank(alloc, plan.base, plan.tracks, states, 0) {
+    let mut table = match Table::blank(alloc, plan.base, plan.tracks, states, plan.fracs) {
         Ok(table) => table,
         Err(_) => return Err(BuildError::Memory),
     };
-    fill(plan, &mut table);
+    fill_steps(plan, &mut table);
     Ok(table)
 }

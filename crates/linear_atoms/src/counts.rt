@@ -57,7 +57,7 @@ pub fn value_of_count(thresholds: &[i128], count: u32) -> i128
     requires some { 0 < length thresholds.now }
     requires small { All IsSmall thresholds.now }
     ensures value { result ≡ representative thresholds.now count }
-    ensures small { unsigned_abs result ≤ 2 ^ 40 + 2 }
+    ensures small { unsigned_abs result ≤ 2 ^ 40 + 2 ^ 24 + 2 }
 {
     if (count as usize) < thresholds.len() {
         thresholds[count as usize]
@@ -69,7 +69,7 @@ pub fn value_of_count(thresholds: &[i128], count: u32) -> i128
 /// The value behind a letter of the total.
 pub fn next_value(base: u32, value: &i128, total: &i128) -> i128
     requires base { base ≤ 16 }
-    requires value { unsigned_abs value.now ≤ 2 ^ 40 + 2 }
+    requires value { unsigned_abs value.now ≤ 2 ^ 40 + 2 ^ 24 + 2 }
     requires total { IsSmallTotal base total.now }
     ensures { result ≡ (pos base *ℤ value.now) +ℤ total.now }
 {

@@ -1,11 +1,12 @@
-//! Filling the table of an atom from its rising thresholds and the totals of its letters.
+//! Filling the table of an atom from its rising thresholds and the totals of its letters: first its steps, which are the same for every
+//! kind of output, then its outputs.
 
 ghost use Rattle.std.specs.Prelude.{◌≡◌, ℕ, ℤ, pos, ◌+◌, ◌*◌, ◌^◌, ◌<◌, ◌≤◌, neg_ℤ, List, length, unsigned_abs};
 ghost use Rattle.lash_model.specs.Tables.{letters, ints};
 ghost use Rattle.linear_atoms.specs.Thresholds.{passes, below, representative, one_if, sign_total};
 ghost use Rattle.linear_atoms.specs.Closing.{entry};
 ghost use Rattle.linear_atoms.specs.Kinds.{comparison_of};
-ghost use Rattle.linear_atoms.specs.Filling.{target_of, IsPlan, IsFilling};
+ghost use Rattle.linear_atoms.specs.Filling.{target_of, IsPlan, AreStepsFilled, IsFilling};
 
 use crate::counts::{count_below, count_from, next_value, value_of_count};
 use crate::kind::AtomKind;
@@ -14,7 +15,7 @@ use digit_codes::Base;
 use formula_core::Linear;
 use step_tables::{Plain, Table};
 
-/// What a table is filled from.
+/// What a table is filled from, and the number of its fraction states.
 #[derive(Clone, Copy)]
 pub struct Plan<'a> {
     pub base: Base,
@@ -23,6 +24,7 @@ pub struct Plan<'a> {
     pub atom: &'a Linear,
     pub totals: &'a [i128],
     pub thresholds: &'a [i128],
+    pub fracs: u32,
 }
 
 /// The base of sign vectors.
@@ -93,8 +95,8 @@ fn out_of(plan: &Plan, state: u32) -> u32
 /// Fills the roots.
 fn fill_roots(plan: &Plan, table: &mut Table<Plain>)
     requires plan { IsPlan plan.now.base plan.now.tracks plan.now.atom.now plan.now.totals.now plan.now.thresholds.now }
-    requires blank { IsFilling (comparison_of plan.now.kind) plan.now.atom.now plan.now.base plan.now.tracks plan.now.totals.now plan.now.thresholds.now 0 0 0 table.old }
-    ensures filled { IsFilling (comparison_of plan.now.kind) plan.now.atom.now plan.now.base plan.now.tracks plan.now.totals.now plan.now.thresholds.now (2 ^ plan.now.tracks) 0 0 table.new }
+    requires blank { AreStepsFilled plan.now.atom.now plan.now.base plan.now.tracks plan.now.totals.now plan.now.thresholds.now plan.now.fracs 0 0 table.old }
+    ensures filled { AreStepsFilled plan.now.atom.now plan.now.base plan.now.tracks plan.now.totals.now plan.now.thresholds.now plan.now.fracs (2 ^ plan.now.tracks) 0 table.new }
 {
     for sign in 0..2u32.pow(plan.tracks) {
         table.set_root(sign, root_of(plan, sign));
@@ -117,8 +119,8 @@ fn lower_target(table: &Table<Plain>, state: u32, letter: u32) -> u32
 fn fill_row(plan: &Plan, table: &mut Table<Plain>, state: u32)
     requires plan { IsPlan plan.now.base plan.now.tracks plan.now.atom.now plan.now.totals.now plan.now.thresholds.now }
     requires state { state < length plan.now.thresholds.now + 1 }
-    requires before { IsFilling (comparison_of plan.now.kind) plan.now.atom.now plan.now.base plan.now.tracks plan.now.totals.now plan.now.thresholds.now (2 ^ plan.now.tracks) (state * length plan.now.totals.now) 0 table.old }
-    ensures filled { IsFilling (comparison_of plan.now.kind) plan.now.atom.now plan.now.base plan.now.tracks plan.now.totals.now plan.now.thresholds.now (2 ^ plan.now.tracks) ((state + 1) * length plan.now.totals.now) 0 table.new }
+    requires before { AreStepsFilled plan.now.atom.now plan.now.base plan.now.tracks plan.now.totals.now plan.now.thresholds.now plan.now.fracs (2 ^ plan.now.tracks) (state * length plan.now.totals.now) table.old }
+    ensures filled { AreStepsFilled plan.now.atom.now plan.now.base plan.now.tracks plan.now.totals.now plan.now.thresholds.now plan.now.fracs (2 ^ plan.now.tracks) ((state + 1) * length plan.now.totals.now) table.new }
 {
     for letter in 0..plan.totals.len() as u32 {
         let from = lower_target(&*table, state, letter);
@@ -129,32 +131,32 @@ fn fill_row(plan: &Plan, table: &mut Table<Plain>, state: u32)
 /// Fills the rows.
 fn fill_rows(plan: &Plan, table: &mut Table<Plain>)
     requires plan { IsPlan plan.now.base plan.now.tracks plan.now.atom.now plan.now.totals.now plan.now.thresholds.now }
-    requires before { IsFilling (comparison_of plan.now.kind) plan.now.atom.now plan.now.base plan.now.tracks plan.now.totals.now plan.now.thresholds.now (2 ^ plan.now.tracks) 0 0 table.old }
-    ensures filled { IsFilling (comparison_of plan.now.kind) plan.now.atom.now plan.now.base plan.now.tracks plan.now.totals.now plan.now.thresholds.now (2 ^ plan.now.tracks) ((length plan.now.thresholds.now + 1) * length plan.now.totals.now) 0 table.new }
+    requires before { AreStepsFilled plan.now.atom.now plan.now.base plan.now.tracks plan.now.totals.now plan.now.thresholds.now plan.now.fracs (2 ^ plan.now.tracks) 0 table.old }
+    ensures filled { AreStepsFilled plan.now.atom.now plan.now.base plan.now.tracks plan.now.totals.now plan.now.thresholds.now plan.now.fracs (2 ^ plan.now.tracks) ((length plan.now.thresholds.now + 1) * length plan.now.totals.now) table.new }
 {
     for state in 0..plan.thresholds.len() as u32 + 1 {
         fill_row(plan, table, state);
     }
 }
 
-/// Fills the outputs.
-fn fill_outs(plan: &Plan, table: &mut Table<Plain>)
+/// Fills the roots and rows of a blank table.
+pub fn fill_steps(plan: &Plan, table: &mut Table<Plain>)
     requires plan { IsPlan plan.now.base plan.now.tracks plan.now.atom.now plan.now.totals.now plan.now.thresholds.now }
-    requires before { IsFilling (comparison_of plan.now.kind) plan.now.atom.now plan.now.base plan.now.tracks plan.now.totals.now plan.now.thresholds.now (2 ^ plan.now.tracks) ((length plan.now.thresholds.now + 1) * length plan.now.totals.now) 0 table.old }
-    ensures filled { IsFilling (comparison_of plan.now.kind) plan.now.atom.now plan.now.base plan.now.tracks plan.now.totals.now plan.now.thresholds.now (2 ^ plan.now.tracks) ((length plan.now.thresholds.now + 1) * length plan.now.totals.now) (length plan.now.thresholds.now + 1) table.new }
+    requires blank { AreStepsFilled plan.now.atom.now plan.now.base plan.now.tracks plan.now.totals.now plan.now.thresholds.now plan.now.fracs 0 0 table.old }
+    ensures filled { AreStepsFilled plan.now.atom.now plan.now.base plan.now.tracks plan.now.totals.now plan.now.thresholds.now plan.now.fracs (2 ^ plan.now.tracks) ((length plan.now.thresholds.now + 1) * length plan.now.totals.now) table.new }
+{
+    fill_roots(plan, table);
+    fill_rows(plan, table);
+}
+
+/// Fills the outputs of a table without fraction states.
+pub fn fill_outs(plan: &Plan, table: &mut Table<Plain>)
+    requires plan { IsPlan plan.now.base plan.now.tracks plan.now.atom.now plan.now.totals.now plan.now.thresholds.now }
+    requires whole { plan.now.fracs ≡ 0 }
+    requires steps { AreStepsFilled plan.now.atom.now plan.now.base plan.now.tracks plan.now.totals.now plan.now.thresholds.now plan.now.fracs (2 ^ plan.now.tracks) ((length plan.now.thresholds.now + 1) * length plan.now.totals.now) table.old }
+    ensures filled { IsFilling (comparison_of plan.now.kind) plan.now.atom.now plan.now.base plan.now.tracks plan.now.totals.now plan.now.thresholds.now plan.now.fracs (length plan.now.thresholds.now + 1) table.new }
 {
     for state in 0..plan.thresholds.len() as u32 + 1 {
         table.set_out(state, out_of(plan, state));
     }
-}
-
-/// Fills a blank table.
-pub fn fill(plan: &Plan, table: &mut Table<Plain>)
-    requires plan { IsPlan plan.now.base plan.now.tracks plan.now.atom.now plan.now.totals.now plan.now.thresholds.now }
-    requires blank { IsFilling (comparison_of plan.now.kind) plan.now.atom.now plan.now.base plan.now.tracks plan.now.totals.now plan.now.thresholds.now 0 0 0 table.old }
-    ensures filled { IsFilling (comparison_of plan.now.kind) plan.now.atom.now plan.now.base plan.now.tracks plan.now.totals.now plan.now.thresholds.now (2 ^ plan.now.tracks) ((length plan.now.thresholds.now + 1) * length plan.now.totals.now) (length plan.now.thresholds.now + 1) table.new }
-{
-    fill_roots(plan, table);
-    fill_rows(plan, table);
-    fill_outs(plan, table);
 }

@@ -39,7 +39,7 @@ atom_stands : (kind : Comparison) (a : Linear) (base n limit : ℕ) (t : Table) 
 atom_stands kind a base n limit t shape h =
     let u = h.atom_table in
     let some : 0 < base = omega (arith, shape.canonical.table.shape.base_low, shape.base_is) in
-    stands_carried u t (holds (atom kind a)) (h.counts.counts.base ∙ sym shape.base_is) (h.counts.counts.tracks ∙ sym shape.tracks_are) shape.canonical.diagram h.words
+    stands_carried u t (holds (atom kind a)) (h.counts.counts.steps.base ∙ sym shape.base_is) (h.counts.counts.steps.tracks ∙ sym shape.tracks_are) shape.canonical.diagram h.words
     (counting_stands kind a base n h.counts.found u some h.counts.counts h.counts.thresholds)
 
 one_atom : (kind : Comparison) (a : Linear) (base n limit : ℕ) (t u : Table) → IsShaped base n t → IsShaped base n u → IsOfAtom kind a base n limit t → IsOfAtom kind a base n limit u → t ≡ u

@@ -1,13 +1,12 @@
-use Rattle.std.proofs.Common.{rules, arith, ◌≡◌, ◌≤◌, ◌<◌, ◌+◌, ◌*◌, ◌^◌, List, ap, ◌∙◌, sym, subst, length}
+use Rattle.std.proofs.Common.{rules, arith, ◌≡◌, ◌≤◌, ◌<◌, ◌+◌, List, ap, ◌∙◌, sym, subst, length}
 use Rattle.std.proofs.Math.IntN.{ℤ}
 use Rattle.lash_model.specs.Formulas.{Linear}
-use Rattle.linear_atoms.specs.Thresholds.{seeds, AreThresholds, letter_total, CountsThresholds}
-use Rattle.linear_atoms.proofs.AtomTables.{counting_stands}
+use Rattle.linear_atoms.specs.Thresholds.{seeds, AreThresholds}
+use Rattle.linear_atoms.proofs.AtomTables.{some_threshold}
 use Rattle.linear_atoms.specs.Kinds.{comparison_of}
 use Rattle.linear_atoms.specs.Closing.{entry, IsOverfull}
-use Rattle.linear_atoms.specs.Totals.{AreTotals}
 use Rattle.linear_atoms.specs.Filling.{IsPlan, IsFilling}
-use Rattle.linear_atoms.proofs.Finishing.{atom_thresholds, atom_heavy, filled_counts, some_threshold, atom_table, atom_stands}
+use Rattle.linear_atoms.proofs.Finishing.{atom_heavy, atom_table, atom_stands}
 use Rattle.linear_atoms.proofs.atom.atom_int.Goals as goal
 
 pub returns-in-Err-thresholds-clause-heavy : goal.returns-in-Err-thresholds-clause-heavy
@@ -47,8 +46,8 @@ returns-in-Ok-table_of-clause-counts c =
     let seeds_are : c.deref-2.result.now ≡ seeds (comparison_of c.args.kind) c.args.atom.now.constant = search rules in
     let a : AreThresholds c.args.base (length c.in-Ok.totals.items) (entry c.in-Ok.totals.items) (seeds (comparison_of c.args.kind) c.args.atom.now.constant) c.in-Ok-thresholds.thresholds.items =
     subst (λ ss. AreThresholds c.args.base (length c.in-Ok.totals.items) (entry c.in-Ok.totals.items) ss c.in-Ok-thresholds.thresholds.items) seeds_are (subst (λ (ts : List ℤ). AreThresholds c.args.base (length ts) (entry ts) c.deref-2.result.now c.in-Ok-thresholds.thresholds.items) totals_are (subst (λ b. AreThresholds b (length c.deref.result.now) (entry c.deref.result.now) c.deref-2.result.now c.in-Ok-thresholds.thresholds.items) base_is c.in-Ok-thresholds.ensures.thresholds)) in
-    let filled : IsFilling (comparison_of c.args.kind) c.args.atom.now c.args.base c.args.tracks c.in-Ok.totals.items c.in-Ok-thresholds.thresholds.items (2 ^ c.args.tracks) ((length c.in-Ok-thresholds.thresholds.items + 1) * length c.in-Ok.totals.items) (length c.in-Ok-thresholds.thresholds.items + 1) c.in-Ok-table_of.table =
-    subst (λ (ts : List ℤ). IsFilling (comparison_of c.args.kind) c.args.atom.now c.args.base c.args.tracks ts c.in-Ok-thresholds.thresholds.items (2 ^ c.args.tracks) ((length c.in-Ok-thresholds.thresholds.items + 1) * length ts) (length c.in-Ok-thresholds.thresholds.items + 1) c.in-Ok-table_of.table) c.deref-3.ensures.value (subst (λ (ts : List ℤ). IsFilling (comparison_of c.args.kind) c.args.atom.now c.args.base c.args.tracks c.deref-3.result.now ts (2 ^ c.args.tracks) ((length ts + 1) * length c.deref-3.result.now) (length ts + 1) c.in-Ok-table_of.table) c.deref-4.ensures.value c.in-Ok-table_of.ensures.filled) in
+    let filled : IsFilling (comparison_of c.args.kind) c.args.atom.now c.args.base c.args.tracks c.in-Ok.totals.items c.in-Ok-thresholds.thresholds.items 0 (length c.in-Ok-thresholds.thresholds.items + 1) c.in-Ok-table_of.table =
+    subst (λ (ts : List ℤ). IsFilling (comparison_of c.args.kind) c.args.atom.now c.args.base c.args.tracks ts c.in-Ok-thresholds.thresholds.items 0 (length c.in-Ok-thresholds.thresholds.items + 1) c.in-Ok-table_of.table) c.deref-3.ensures.value (subst (λ (ts : List ℤ). IsFilling (comparison_of c.args.kind) c.args.atom.now c.args.base c.args.tracks c.deref-3.result.now ts 0 (length ts + 1) c.in-Ok-table_of.table) c.deref-4.ensures.value c.in-Ok-table_of.ensures.filled) in
     atom_table (comparison_of c.args.kind) c.args.atom.now c.args.base c.args.tracks c.in-Ok.totals.items c.in-Ok-thresholds.thresholds.items c.room_for-room.result c.args.limit c.in-Ok-table_of.table c.in-Ok.ensures.totals a c.in-Ok-thresholds.ensures.within (search rules) filled
 
 pub returns-in-Ok-table_of-clause-stands : goal.returns-in-Ok-table_of-clause-stands

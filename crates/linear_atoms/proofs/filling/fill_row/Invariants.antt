@@ -1,7 +1,6 @@
 use Rattle.std.proofs.Common.{◌+◌, ◌*◌, ◌^◌, length}
-use Rattle.linear_atoms.specs.Kinds.{comparison_of}
-use Rattle.linear_atoms.specs.Filling.{IsFilling}
+use Rattle.linear_atoms.specs.Filling.{AreStepsFilled}
 use Rattle.linear_atoms.proofs.filling.fill_row.Given as goal
 
 abbrev pub invariant-loop-letter : goal.invariant-loop-letter
-invariant-loop-letter l = IsFilling (comparison_of l.plan.kind) l.plan.atom.now l.plan.base l.plan.tracks l.plan.totals.now l.plan.thresholds.now (2 ^ l.plan.tracks) (l.state * length l.plan.totals.now + l.letter) 0 l.table
+invariant-loop-letter l = AreStepsFilled l.plan.atom.now l.plan.base l.plan.tracks l.plan.totals.now l.plan.thresholds.now l.plan.fracs (2 ^ l.plan.tracks) (l.state * length l.plan.totals.now + l.letter) l.table
