@@ -5,7 +5,7 @@ use Rattle.std.specs.List.{slice_index_or, AllPairs}
 use mathlib.Core.Logic.{inl, inr}
 use Rattle.lash_model.specs.Formulas.{Linear, Comparison}
 use Rattle.lash_model.specs.Tables.{Table}
-use Rattle.linear_atoms.specs.Thresholds.{seeds, letter_total, Among, AreThresholds, atom_cells, TooManyThresholds, IsAtomTable, IsHeavyAtom}
+use Rattle.threshold_laws.specs.Thresholds.{seeds, letter_total, Among, AreThresholds, atom_cells, TooManyThresholds, IsAtomTable, IsHeavyAtom}
 
 -- the list without a member
 abbrev without : (z : ℤ) (ys : List ℤ) → Among z ys → List ℤ

@@ -10,7 +10,7 @@ use Rattle.std.proofs.lemmas.Nat.{same_from_place}
 use mathlib.Core.Logic.{inl, inr}
 use Rattle.lash_model.specs.Formulas.{Linear}
 use Rattle.lash_model.specs.Tables.{IsTable}
-use Rattle.linear_atoms.specs.Thresholds.{letter_total, sign_total}
+use Rattle.threshold_laws.specs.Thresholds.{letter_total, sign_total}
 use Rattle.lash_model.specs.Letters.{sign_bit}
 use Rattle.step_tables.specs.Kept.{Kept}
 use Rattle.linear_atoms.specs.Closing.{entry}

@@ -7,8 +7,8 @@ use Rattle.lash_model.specs.Formulas.{Linear, Comparison, atom}
 use Rattle.lash_model.specs.Meaning.{holds}
 use Rattle.lash_model.specs.Tables.{Table}
 use Rattle.lash_model.specs.Standing.{StandsForWhole}
-use Rattle.linear_atoms.specs.Thresholds.{seeds, letter_total, lowered_by, lowered, IsThreshold, AreThresholds, atom_cells, StepsByThresholds, CountsThresholds, IsAtomTable, IsHeavyAtom}
-use Rattle.linear_atoms.proofs.AtomTables.{counting_stands, some_threshold}
+use Rattle.threshold_laws.specs.Thresholds.{seeds, letter_total, lowered_by, lowered, IsThreshold, AreThresholds, atom_cells, StepsByThresholds, CountsThresholds, IsAtomTable, IsHeavyAtom}
+use Rattle.threshold_laws.proofs.AtomTables.{counting_stands, some_threshold}
 use Rattle.step_tables.specs.Kept.{Kept}
 use Rattle.linear_atoms.specs.Closing.{entry, IsOverfull}
 use Rattle.linear_atoms.specs.Totals.{AreTotals}

@@ -1,6 +1,3 @@
-pub mod ValueTotals
-pub mod Counting
-pub mod AtomTables
 pub mod Members
 pub mod Searching
 pub mod Summing

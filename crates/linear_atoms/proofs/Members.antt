@@ -6,7 +6,7 @@ use Rattle.std.proofs.lemmas.Int.{ints, to_z-of_z}
 use mathlib.Core.Logic.{◌⊎◌, inl, inr}
 use mir.Val.{SFits}
 use mir.Syntax.{w128}
-use Rattle.linear_atoms.specs.Thresholds.{Among}
+use Rattle.threshold_laws.specs.Thresholds.{Among}
 use Rattle.linear_atoms.specs.Closing.{Met, entry}
 use Rattle.linear_atoms.specs.Closing.Met.{known, added}
 

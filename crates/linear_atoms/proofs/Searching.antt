@@ -7,8 +7,8 @@ use Rattle.std.proofs.lemmas.List.{get_or_default}
 use Rattle.std.proofs.lemmas.List.Elements.{All-push, All-nil}
 use Rattle.std.proofs.lemmas.Bool.{cases_lt}
 use mathlib.Core.Logic.{◌⊎◌, inl, inr}
-use Rattle.linear_atoms.specs.Thresholds.{lowered_by, lowered, Among, IsThreshold}
-use Rattle.linear_atoms.proofs.AtomTables.{threshold_lowered, seed_is_threshold}
+use Rattle.threshold_laws.specs.Thresholds.{lowered_by, lowered, Among, IsThreshold}
+use Rattle.threshold_laws.proofs.AtomTables.{threshold_lowered, seed_is_threshold}
 use Rattle.linear_atoms.specs.Closing.{entry, IsSmall, IsDistinct, Met, AreFound, IsStarting, IsClosing, IsOverfull}
 use Rattle.linear_atoms.specs.Closing.Met.{known, added}
 use Rattle.linear_atoms.proofs.Members.{among_append, among_last, among_entry, place_of}

@@ -11,7 +11,7 @@ use Rattle.std.proofs.lemmas.Int.{ints, by_lt_z}
 use Rattle.std.proofs.lemmas.List.Sorted.{sorted_far, ranks_by, Contains-permutation, All-permutation, length_permutation}
 use Rattle.std.proofs.lemmas.Map.Keys.{apart_from_distinct, IsDistinct-IsPermutation}
 use mathlib.Core.Logic.{inl, inr}
-use Rattle.linear_atoms.specs.Thresholds.{Among, IsThreshold, AreThresholds}
+use Rattle.threshold_laws.specs.Thresholds.{Among, IsThreshold, AreThresholds}
 use Rattle.linear_atoms.specs.Closing.{entry, IsClosing}
 use Rattle.linear_atoms.proofs.Searching.{all_found}
 

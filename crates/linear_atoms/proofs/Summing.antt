@@ -8,7 +8,7 @@ use Rattle.lash_model.specs.Meaning.{total}
 use Rattle.std.proofs.lemmas.Nat.{mod_below}
 use Rattle.integer_laws.proofs.Entries.{entry-vector}
 use Rattle.lash_model.specs.Letters.{digit}
-use Rattle.linear_atoms.specs.Thresholds.{letter_total}
+use Rattle.threshold_laws.specs.Thresholds.{letter_total}
 use Rattle.lash_model.proofs.Digits.{digit-quotient}
 use Rattle.linear_atoms.specs.Closing.{IsSmallTotal}
 use Rattle.linear_atoms.specs.Totals.{IsSumming, letter_digits}

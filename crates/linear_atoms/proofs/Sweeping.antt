@@ -6,8 +6,8 @@ use Rattle.std.proofs.lemmas.Int.{ints}
 use Rattle.std.proofs.lemmas.Bool.{cases_lt}
 use Rattle.std.specs.List.{AllPairs}
 use mathlib.Core.Logic.{inl, inr}
-use Rattle.linear_atoms.specs.Thresholds.{below}
-use Rattle.linear_atoms.proofs.Counting.{count_split}
+use Rattle.threshold_laws.specs.Thresholds.{below}
+use Rattle.threshold_laws.proofs.Counting.{count_split}
 use Rattle.linear_atoms.specs.Closing.{entry}
 use Rattle.linear_atoms.specs.Filling.{IsCountedUpTo}
 

@@ -1,7 +1,7 @@
 -- What the search for an atom's thresholds keeps true.
 use Rattle.std.specs.Prelude.{ℕ, ◌+◌, ◌*◌, ◌^◌, ◌<◌, ◌≤◌, ◌≡◌, List, [], ◌∷◌, ◌++◌, length, All, ℤ, pos, unsigned_abs}
 use Rattle.std.specs.List.{AllPairs, slice_index_or}
-use Rattle.linear_atoms.specs.Thresholds.{lowered_by, Among, IsThreshold}
+use Rattle.threshold_laws.specs.Thresholds.{lowered_by, Among, IsThreshold}
 
 -- the entry of a list of integers
 abbrev pub entry : List ℤ → ℕ → ℤ

@@ -3,7 +3,7 @@ use Rattle.std.specs.Prelude.{ℕ, ◌+◌, ◌-◌, ◌*◌, ◌^◌, ◌<◌, 
 use Rattle.std.specs.List.{slice_index_or, AllPairs}
 use Rattle.lash_model.specs.Formulas.{Linear, IsInside, Comparison}
 use Rattle.lash_model.specs.Tables.{Table, IsTable}
-use Rattle.linear_atoms.specs.Thresholds.{passes, sign_total, one_if, below, representative}
+use Rattle.threshold_laws.specs.Thresholds.{passes, sign_total, one_if, below, representative}
 use Rattle.step_tables.specs.Kept.{Kept}
 use Rattle.linear_atoms.specs.Closing.{entry, IsSmall, IsSmallTotal}
 

@@ -1,4 +1,3 @@
-pub mod Thresholds
 pub mod Closing
 pub mod Totals
 pub mod Kinds

@@ -6,7 +6,7 @@ use Rattle.lash_model.specs.Letters.{digit}
 use Rattle.linear_atoms.specs.Closing.{IsSmallTotal}
 use Rattle.lash_model.specs.Formulas.{coefficient_sum}
 use Rattle.lash_model.specs.Meaning.{total}
-use Rattle.linear_atoms.specs.Thresholds.{letter_total}
+use Rattle.threshold_laws.specs.Thresholds.{letter_total}
 
 -- the term at an index
 abbrev pub term_at : List (ℕ × ℤ) → ℕ → ℕ × ℤ

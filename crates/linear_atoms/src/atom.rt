@@ -6,7 +6,7 @@ ghost use Rattle.lash_model.specs.Formulas.{IsInside, atom as atom_of};
 ghost use Rattle.lash_model.specs.Meaning.{holds};
 ghost use Rattle.lash_model.specs.Tables.{IsTable};
 ghost use Rattle.lash_model.specs.Standing.{StandsForWhole};
-ghost use Rattle.linear_atoms.specs.Thresholds.{seeds, IsAtomTable, IsHeavyAtom};
+ghost use Rattle.threshold_laws.specs.Thresholds.{seeds, IsAtomTable, IsHeavyAtom};
 ghost use Rattle.linear_atoms.specs.Closing.{IsSmall};
 ghost use Rattle.linear_atoms.specs.Kinds.{comparison_of};
 ghost use Rattle.linear_atoms.specs.Filling.{IsPlan, AreStepsFilled, IsFilling};

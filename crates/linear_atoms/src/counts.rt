@@ -2,7 +2,7 @@
 
 ghost use Rattle.std.specs.Prelude.{◌≡◌, ℕ, ℤ, pos, ◌+◌, ◌-◌, ◌*◌, ◌^◌, ◌<◌, ◌≤◌, ◌+ℤ◌, ◌*ℤ◌, ◌<ℤ◌, int_lt, IsTrue, List, length, All, unsigned_abs};
 ghost use Rattle.std.specs.List.{AllPairs};
-ghost use Rattle.linear_atoms.specs.Thresholds.{below, representative};
+ghost use Rattle.threshold_laws.specs.Thresholds.{below, representative};
 ghost use Rattle.linear_atoms.specs.Closing.{entry, IsSmall, IsSmallTotal};
 ghost use Rattle.linear_atoms.specs.Filling.{IsCountedUpTo};
 

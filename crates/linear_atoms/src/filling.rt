@@ -3,7 +3,7 @@
 
 ghost use Rattle.std.specs.Prelude.{◌≡◌, ℕ, ℤ, pos, ◌+◌, ◌*◌, ◌^◌, ◌<◌, ◌≤◌, neg_ℤ, List, length, unsigned_abs};
 ghost use Rattle.lash_model.specs.Tables.{letters, ints};
-ghost use Rattle.linear_atoms.specs.Thresholds.{passes, below, representative, one_if, sign_total};
+ghost use Rattle.threshold_laws.specs.Thresholds.{passes, below, representative, one_if, sign_total};
 ghost use Rattle.linear_atoms.specs.Closing.{entry};
 ghost use Rattle.linear_atoms.specs.Kinds.{comparison_of};
 ghost use Rattle.linear_atoms.specs.Filling.{target_of, IsPlan, AreStepsFilled, IsFilling};

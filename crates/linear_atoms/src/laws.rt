@@ -1,25 +1,11 @@
 //! Laws of atoms' tables.
 
-ghost use Rattle.std.specs.Prelude.{◌≡◌, ℕ, ◌^◌, ◌<◌, List, map, ℤ, neg_ℤ};
-ghost use Rattle.integer_laws.specs.Runs.{run};
-ghost use Rattle.lash_model.specs.Formulas.{Linear, Comparison, atom};
-ghost use Rattle.lash_model.specs.Words.{values};
-ghost use Rattle.lash_model.specs.Meaning.{total, holds};
+ghost use Rattle.std.specs.Prelude.{ℕ};
+ghost use Rattle.lash_model.specs.Formulas.{Linear, Comparison};
 ghost use Rattle.lash_model.specs.Tables.{Table};
-ghost use Rattle.lash_model.specs.Standing.{StandsForWhole};
-ghost use Rattle.linear_atoms.specs.Thresholds.{letter_total, sign_total, seeds, AreThresholds, CountsThresholds, IsAtomTable, IsHeavyAtom};
+ghost use Rattle.threshold_laws.specs.Thresholds.{IsAtomTable, IsHeavyAtom};
 
 /// A heavy atom and a table of it exclude each other.
 pub fn heavy_or_table()
     ensures { (kind : Comparison) (a : Linear) (r n limit : ℕ) (t : Table) → IsHeavyAtom kind a r n limit → IsAtomTable kind a r n limit t → ⊥ }
-{}
-
-/// A linear term's total over the values of a word is the run over the letters' totals from minus the sign bits' total.
-pub fn totals_are_runs()
-    ensures { (ts : List (ℕ × ℤ)) (r n sign : ℕ) (w : List ℕ) → total ts (values r n sign w) ≡ run r (neg_ℤ (sign_total ts n sign)) (map (letter_total ts r n) w) }
-{}
-
-/// A table whose states count the thresholds of an atom stands for the atom.
-pub fn counting_tables_stand()
-    ensures { (kind : Comparison) (a : Linear) (r n : ℕ) (ts : List ℤ) (t : Table) → 0 < r → CountsThresholds kind a r n ts t → AreThresholds r (r ^ n) (letter_total a.terms r n) (seeds kind a.constant) ts → StandsForWhole t (holds (atom kind a)) }
 {}

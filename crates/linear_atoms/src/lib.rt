@@ -11,7 +11,7 @@ mod totals;
 
 pub use atom::atom_int;
 pub use kind::AtomKind;
-pub use laws::{counting_tables_stand, heavy_or_table, totals_are_runs};
+pub use laws::heavy_or_table;
 
 #[cfg(test)]
 mod tests;

@@ -4,7 +4,7 @@
 ghost use Rattle.std.specs.Prelude.{◌≡◌, ℕ, ℤ, pos, ◌+◌, ◌*◌, ◌^◌, ◌<◌, ◌≤◌, ◌+ℤ◌, ◌-ℤ◌, ◌<ℤ◌, List, [], ◌∷◌, length, All, unsigned_abs, OnOk, IfOk, IfErr};
 ghost use Rattle.std.specs.List.{AllPairs};
 ghost use Rattle.std.specs.List.Sorted.{IsPermutation};
-ghost use Rattle.linear_atoms.specs.Thresholds.{lowered_by, Among, AreThresholds};
+ghost use Rattle.threshold_laws.specs.Thresholds.{lowered_by, Among, AreThresholds};
 ghost use Rattle.linear_atoms.specs.Closing.{IsSmall, IsSmallTotal, Met, IsStarting, IsClosing, IsOverfull, entry};
 
 use indexmap::IndexSet;

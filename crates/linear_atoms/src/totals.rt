@@ -2,7 +2,7 @@
 
 ghost use Rattle.std.specs.Prelude.{◌≡◌, ℕ, ℤ, pos, ◌+◌, ◌-◌, ◌*◌, ◌^◌, ◌<◌, ◌≤◌, ◌+ℤ◌, ◌*ℤ◌, List, length, All, unsigned_abs, IfOk, IfErr};
 ghost use Rattle.lash_model.specs.Formulas.{coefficient_sum};
-ghost use Rattle.linear_atoms.specs.Thresholds.{letter_total};
+ghost use Rattle.threshold_laws.specs.Thresholds.{letter_total};
 ghost use Rattle.linear_atoms.specs.Closing.{IsSmallTotal};
 ghost use Rattle.linear_atoms.specs.Totals.{AreTotals};
 

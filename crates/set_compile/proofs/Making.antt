@@ -10,8 +10,8 @@ use Rattle.lash_model.specs.Formulas.{Linear, Formula, Le, Eq, Not, And, Or, Exi
 use Rattle.lash_model.specs.Meaning.{holds}
 use Rattle.lash_model.specs.Tables.{Table, letters}
 use Rattle.lash_model.specs.Standing.{StandsForWhole}
-use Rattle.linear_atoms.specs.Thresholds.{IsAtomTable, IsHeavyAtom}
-use Rattle.linear_atoms.proofs.AtomTables.{counting_stands}
+use Rattle.threshold_laws.specs.Thresholds.{IsAtomTable, IsHeavyAtom}
+use Rattle.threshold_laws.proofs.AtomTables.{counting_stands}
 use Rattle.canonical_laws.specs.Canonical.{AcceptSameWords}
 use Rattle.canonical_laws.proofs.Diagrams.{diagrams_unique}
 use Rattle.canonical_laws.proofs.Carrying.{stands_carried, agreeing_accept}

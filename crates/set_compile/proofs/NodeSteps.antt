@@ -8,7 +8,7 @@ use mathlib.Core.Logic.{inl, inr}
 use Rattle.graph_laws.specs.Exploring.{IsHeavy}
 use Rattle.lash_model.specs.Formulas.{Int, Linear, IsLinear, Formula, Le, Eq, Not, And, Or, Exists, AtMost, Equal}
 use Rattle.lash_model.specs.Tables.{Table}
-use Rattle.linear_atoms.specs.Thresholds.{IsHeavyAtom}
+use Rattle.threshold_laws.specs.Thresholds.{IsHeavyAtom}
 use Rattle.formula_core.specs.Counts.{uses, free_places}
 use Rattle.formula_core.specs.FewLetters.{HasFewLetters}
 use Rattle.product_ops.specs.Negation.{AcceptsOthers}

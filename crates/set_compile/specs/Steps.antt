@@ -4,7 +4,7 @@ use Rattle.std.specs.Prelude.{◌≡◌, ℕ, suc, ◌+◌, ◌<◌, ◌⊎◌, 
 use Rattle.graph_laws.specs.Exploring.{IsHeavy}
 use Rattle.lash_model.specs.Formulas.{Linear, Formula, Le, Eq, Not, And, Or, Exists, Comparison, AtMost, Equal}
 use Rattle.lash_model.specs.Tables.{Table}
-use Rattle.linear_atoms.specs.Thresholds.{IsAtomTable, IsHeavyAtom}
+use Rattle.threshold_laws.specs.Thresholds.{IsAtomTable, IsHeavyAtom}
 use Rattle.canonical_laws.specs.Canonical.{IsCanonical, AcceptSameWords}
 use Rattle.formula_core.specs.Counts.{uses, free_places}
 use Rattle.product_ops.specs.Negation.{AcceptsOthers}

@@ -4,7 +4,7 @@ ghost use Rattle.std.specs.Prelude.{◌≡◌, ◌<◌, ◌≤◌, ◌^◌, [], 
 ghost use Rattle.lash_model.specs.Formulas.{IsInside, IsLinear, atom as atom_of};
 ghost use Rattle.lash_model.specs.Meaning.{holds};
 ghost use Rattle.lash_model.specs.Standing.{StandsForWhole};
-ghost use Rattle.linear_atoms.specs.Thresholds.{IsHeavyAtom};
+ghost use Rattle.threshold_laws.specs.Thresholds.{IsHeavyAtom};
 ghost use Rattle.linear_atoms.specs.Kinds.{comparison_of};
 ghost use Rattle.set_compile.specs.Steps.{own, IsShaped, IsOfAtom};
 

@@ -1,8 +1,8 @@
 use Rattle.std.proofs.Common.{rules, arith, ◌≡◌, ◌≤◌, ◌<◌, ◌+◌, List, ap, ◌∙◌, sym, subst, length}
 use Rattle.std.proofs.Math.IntN.{ℤ}
 use Rattle.lash_model.specs.Formulas.{Linear}
-use Rattle.linear_atoms.specs.Thresholds.{seeds, AreThresholds}
-use Rattle.linear_atoms.proofs.AtomTables.{some_threshold}
+use Rattle.threshold_laws.specs.Thresholds.{seeds, AreThresholds}
+use Rattle.threshold_laws.proofs.AtomTables.{some_threshold}
 use Rattle.linear_atoms.specs.Kinds.{comparison_of}
 use Rattle.linear_atoms.specs.Closing.{entry, IsOverfull}
 use Rattle.linear_atoms.specs.Filling.{IsPlan, IsFilling}

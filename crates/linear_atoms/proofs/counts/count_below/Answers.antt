@@ -6,7 +6,7 @@ use Rattle.std.proofs.lemmas.Bool.{cases_eq}
 use Rattle.std.specs.List.{AllPairs}
 use Rattle.std.specs.List.Sorted.{IsPartitionedBy}
 use Rattle.std.proofs.lemmas.List.Sorted.{IsPartitionPoint-from_clause}
-use Rattle.linear_atoms.proofs.Counting.{count_split}
+use Rattle.threshold_laws.proofs.Counting.{count_split}
 use Rattle.linear_atoms.proofs.counts.count_below.Goals as goal
 
 less_from_test : (a b : ℤ) → int_lt a b ≡ true → a <ℤ b

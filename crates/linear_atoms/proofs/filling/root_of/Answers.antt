@@ -3,7 +3,7 @@ use Rattle.std.proofs.Math.IntN.{ℤ, neg_ℤ}
 use mir.Val.{SFits}
 use mir.Syntax.{w128}
 use Rattle.std.proofs.lemmas.Int.{to_z-of_z}
-use Rattle.linear_atoms.specs.Thresholds.{below, letter_total}
+use Rattle.threshold_laws.specs.Thresholds.{below, letter_total}
 use Rattle.linear_atoms.proofs.FillingSteps.{few_signs, sign_total_by_digits}
 use Rattle.linear_atoms.proofs.filling.root_of.Goals as goal
 

@@ -2,7 +2,7 @@ use Rattle.std.proofs.Common.{rules, ◌≡◌, ◌∙◌, ℕ, ℤ, List, lengt
 use Rattle.std.specs.Prelude.{All}
 use mir.Val.{SFits}
 use mir.Syntax.{w128}
-use Rattle.linear_atoms.specs.Thresholds.{lowered_by, Among}
+use Rattle.threshold_laws.specs.Thresholds.{lowered_by, Among}
 use Rattle.linear_atoms.specs.Closing.{entry, IsSmall, Met, IsClosing}
 use Rattle.linear_atoms.proofs.Members.{passed}
 use Rattle.linear_atoms.proofs.Searching.{closing_more, closing_overfull, small_met}

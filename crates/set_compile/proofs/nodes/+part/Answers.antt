@@ -6,7 +6,7 @@ use Rattle.lash_model.specs.Formulas as model
 use Rattle.lash_model.specs.Meaning.{holds}
 use Rattle.lash_model.specs.Standing.{StandsForWhole}
 use Rattle.lash_model.specs.Formulas.{AtMost, Equal}
-use Rattle.linear_atoms.specs.Thresholds.{IsHeavyAtom}
+use Rattle.threshold_laws.specs.Thresholds.{IsHeavyAtom}
 use Rattle.step_tables.specs.Kept.{Kept}
 use Rattle.formula_core.specs.Counts.{free_places}
 use Rattle.formula_core.specs.Shape.{formula_of}

@@ -12,7 +12,7 @@ use Rattle.lash_model.specs.Letters.{digit, sign_bit}
 use Rattle.lash_model.specs.Words.{value, values, track_digits}
 use Rattle.lash_model.specs.Meaning.{total}
 use Rattle.lash_model.proofs.WordValues.{value_is_run}
-use Rattle.linear_atoms.specs.Thresholds.{letter_total, sign_total}
+use Rattle.threshold_laws.specs.Thresholds.{letter_total, sign_total}
 
 -- the entries of one vector are those of another times r, plus those of a third; past the end all are 0
 entry_combined : (r : ℕ) (f g h : ℕ → ℤ) → ((i : ℕ) → f i ≡ (pos r *ℤ g i) +ℤ h i) → (i n p : ℕ) → slice_index_or (vector_from f i n) p (pos 0) ≡ (pos r *ℤ slice_index_or (vector_from g i n) p (pos 0)) +ℤ slice_index_or (vector_from h i n) p (pos 0)

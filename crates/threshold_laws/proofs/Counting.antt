@@ -9,7 +9,7 @@ use mathlib.Core.Logic.{inl, inr}
 use Rattle.integer_laws.proofs.Ring.{floor_below, below_floor, times_comm}
 use Rattle.std.proofs.lemmas.Bool.{cases_lt}
 use Rattle.std.proofs.lemmas.List.{get_or_default, get_or_past}
-use Rattle.linear_atoms.specs.Thresholds.{lowered_by, Among, one_if, below, representative}
+use Rattle.threshold_laws.specs.Thresholds.{lowered_by, Among, one_if, below, representative}
 
 lt_true : (a b : ℤ) → a <ℤ b → int_lt a b ≡ true
 lt_true a b h = grind (arith, ints)

@@ -15,9 +15,9 @@ use Rattle.lash_model.specs.Meaning.{total, holds}
 use Rattle.lash_model.specs.Tables.{Table, letters}
 use Rattle.lash_model.specs.Acceptance.{accepts_word}
 use Rattle.lash_model.specs.Standing.{StandsForWhole}
-use Rattle.linear_atoms.specs.Thresholds.{seeds, passes, letter_total, sign_total, lowered_by, lowered, Among, IsThreshold, AreThresholds, one_if, below, representative, StepsByThresholds, CountsThresholds}
-use Rattle.linear_atoms.proofs.ValueTotals.{total_of_values}
-use Rattle.linear_atoms.proofs.Counting.{below_few, step_counts, below-representative, not_parted}
+use Rattle.threshold_laws.specs.Thresholds.{seeds, passes, letter_total, sign_total, lowered_by, lowered, Among, IsThreshold, AreThresholds, one_if, below, representative, StepsByThresholds, CountsThresholds}
+use Rattle.threshold_laws.proofs.ValueTotals.{total_of_values}
+use Rattle.threshold_laws.proofs.Counting.{below_few, step_counts, below-representative, not_parted}
 
 among_all : (P : ℤ → Type 0) (ts : List ℤ) (x : ℤ) → All P ts → Among x ts → P x
 among_all P [] x h a = absurd a

@@ -1,0 +1,3 @@
+pub mod ValueTotals
+pub mod Counting
+pub mod AtomTables
