@@ -1,11 +1,12 @@
 -- Weights: distinct members weigh no more than the whole list, so heavy and explored exclude each other.
-use Rattle.std.proofs.Common.{◌≡◌, ℕ, zero, suc, ◌+◌, ◌-◌, ◌*◌, ◌<◌, ◌≤◌, List, [], ◌∷◌, length, slice_get, All, zero-add, arith, sym, ap, ◌∙◌}
+use Rattle.std.proofs.Common.{◌≡◌, ℕ, zero, suc, ◌+◌, ◌-◌, ◌*◌, ◌<◌, ◌≤◌, List, [], ◌∷◌, length, map, slice_get, All, zero-add, arith, refl, sym, ap, ◌∙◌}
 use Rattle.std.specs.declared.option.Option.TheVariants.{Some}
 use Rattle.std.specs.List.{slice_index_or}
+use Rattle.std.proofs.lemmas.Option.{slice_get_within, get_or_from_slice_get}
 use Rattle.std.proofs.lemmas.List.{get_or-map, length-map}
 use Rattle.std.proofs.lemmas.List.Elements.{All-nil}
 use Rattle.graph_laws.specs.Paths.{path_at, start_path}
-use Rattle.graph_laws.specs.Exploring.{Steps, after, IsReached, cells_of, weigh, IsDistinct, IsHeavy, IsHeavyInTwo, KeyTable, position, IsExplored}
+use Rattle.graph_laws.specs.Exploring.{Steps, list_at, led, after, IsReached, cells_of, weigh, IsDistinct, IsHeavy, led_by, IsHeavyInTwo, KeyTable, position, IsExplored, IsExploredInTwo}
 
 -- the list has the key
 pub record Has (ys : List (List ℕ)) (x : List ℕ) : Type 0 where
@@ -46,22 +47,21 @@ weigh_within m (x ∷ xs) ys d a =
           (λ i e i_in. let other = a (suc i) e (omega (arith, i_in)) in has_without ys first.at other.at x (slice_index_or xs i e) first.is other.is (d 0 (suc i) e (omega arith) (omega (arith, i_in)))),
     )
 
+-- reached keys stand in the table
+in_table : (m : Steps) (limit : ℕ) (t : KeyTable) (ks : List (List ℕ)) → IsExplored m limit t → All (IsReached m) ks → All (Has t.keys) ks
+in_table m limit t ks e r i k lt = let one = r i k lt in record { at = position t one.path; is = e.complete one.path one.valid ∙ ap (λ x. Some x) one.leads }
+
 -- distinct reached keys weigh no more than the table
 pub weigh_explored : (m : Steps) (limit : ℕ) (t : KeyTable) (ks : List (List ℕ)) → IsExplored m limit t → IsDistinct ks → All (IsReached m) ks → weigh m ks ≤ t.cells
-weigh_explored m limit t ks e d r = omega (
-  arith,
-  e.weighs,
-  weigh_within m ks t.keys d
-      (λ i k lt. let one = r i k lt in record { at = position t one.path; is = e.complete one.path one.valid ∙ ap (λ x. Some x) one.leads }),
-)
+weigh_explored m limit t ks e d r = omega (arith, e.weighs, weigh_within m ks t.keys d (in_table m limit t ks e r))
 
 -- heavy and explored exclude each other
 pub not_both : (m : Steps) (limit : ℕ) (t : KeyTable) → IsHeavy m limit → IsExplored m limit t → ⊥
 not_both m limit t h e = omega (arith, h.over, e.within, weigh_explored m limit t h.keys e h.distinct h.reached)
 
 -- the first of two is heavy
-pub heavy_at_first : (a b : Steps) (limit : ℕ) → IsHeavy a limit → IsHeavyInTwo a b limit
-heavy_at_first a b limit h = record {
+pub heavy_at_first : (a : Steps) (lead : List ℕ → List ℕ) (b : Steps) (limit : ℕ) → IsHeavy a limit → IsHeavyInTwo a lead b limit
+heavy_at_first a lead b limit h = record {
   keys = h.keys;
   other_keys = [];
   distinct = h.distinct;
@@ -82,21 +82,49 @@ table_reached m limit t e i d lt =
       leads = sym (ap (λ ks. slice_index_or ks i d) e.reached ∙ get_or-map (after m) e.paths i (start_path 0) d path_in);
     }
 
+-- the second machine's keys weigh the same whatever leads to it
+weigh_led : (lead : List ℕ → List ℕ) (b : Steps) (keys ks : List (List ℕ)) → weigh (led_by lead b keys) ks ≡ weigh b ks
+weigh_led lead b keys [] = refl
+weigh_led lead b keys (k ∷ ks) = ap (λ n. cells_of b k + n) (weigh_led lead b keys ks)
+
 -- the second of two is heavy, at what the first left
-pub heavy_at_second : (a b : Steps) (limit : ℕ) (t : KeyTable) → IsExplored a limit t → IsHeavy b (limit - t.cells) → IsHeavyInTwo a b limit
-heavy_at_second a b limit t e h = record {
+pub heavy_at_second : (a : Steps) (lead : List ℕ → List ℕ) (b : Steps) (limit : ℕ) (t : KeyTable) → IsExplored a limit t → IsHeavy (led_by lead b t.keys) (limit - t.cells) → IsHeavyInTwo a lead b limit
+heavy_at_second a lead b limit t e h = record {
   keys = t.keys;
   other_keys = h.keys;
   distinct = e.distinct;
   other_distinct = h.distinct;
   reached = table_reached a limit t e;
   other_reached = h.reached;
-  over = omega (arith, h.over, e.weighs, e.within);
+  over = omega (arith, h.over, e.weighs, e.within, weigh_led lead b t.keys h.keys);
 }
 
--- where both end, the two together are not heavy
-pub not_in_two : (a b : Steps) (limit : ℕ) (t u : KeyTable) → IsExplored a limit t → IsExplored b (limit - t.cells) u → IsHeavyInTwo a b limit → ⊥
-not_in_two a b limit t u e f h = omega (arith, h.over, e.within, f.within, weigh_explored a limit t h.keys e h.distinct h.reached, weigh_explored b (limit - t.cells) u h.other_keys f h.other_distinct h.other_reached)
+-- a path of the second machine from one of some keys leads to the same key from any list that has those keys
+reached_from_more : (lead : List ℕ → List ℕ) (b : Steps) (ks keys : List (List ℕ)) → All (Has keys) ks → (k : List ℕ) → IsReached (led_by lead b ks) k → IsReached (led_by lead b keys) k
+reached_from_more lead b ks keys has k r =
+    let j = r.path.start in
+    let in_ks : j < length ks = omega (arith, r.valid.start, length-map ks lead) in
+    let h = has j [] in_ks in
+    let in_keys : h.at < length keys = slice_get_within keys h.at _ h.is in
+    let same : list_at (map lead keys) h.at ≡ list_at (map lead ks) j = get_or-map lead keys h.at [] [] in_keys ∙ ap lead (get_or_from_slice_get keys h.at _ [] h.is) ∙ sym (get_or-map lead ks j [] [] in_ks) in
+    record {
+      path = record { start = h.at; word = r.path.word };
+      valid = record { start = omega (arith, in_keys, length-map keys lead); letters = r.valid.letters };
+      leads = ap (λ x. led b.step x r.path.word) same ∙ r.leads;
+    }
+
+-- heavy in two and explored in two exclude each other
+pub not_in_two : (a : Steps) (lead : List ℕ → List ℕ) (b : Steps) (limit : ℕ) (t u : KeyTable) → IsHeavyInTwo a lead b limit → IsExploredInTwo a lead b limit t u → ⊥
+not_in_two a lead b limit t u h e = omega (
+  arith,
+  h.over,
+  e.first_part.within,
+  e.second_part.within,
+  weigh_explored a limit t h.keys e.first_part h.distinct h.reached,
+  weigh_led lead b t.keys h.other_keys,
+  weigh_explored (led_by lead b t.keys) (limit - t.cells) u h.other_keys e.second_part h.other_distinct
+      (λ i k lt. reached_from_more lead b h.keys t.keys (in_table a limit t h.keys e.first_part h.reached) _ (h.other_reached i k lt)),
+)
 
 -- the keys that are single numbers from a on, n of them
 abbrev pub singles : ℕ → ℕ → List (List ℕ)

@@ -1,5 +1,5 @@
 -- Exploration of the states of a machine, which are named by keys, lists of numbers (breadth-first search).
-use Rattle.std.specs.Prelude.{◌≡◌, ℕ, ◌+◌, ◌*◌, ◌<◌, ◌≤◌, Bool, List, [], ◌∷◌, length, slice_get, slice_index, map, IsTrue, All}
+use Rattle.std.specs.Prelude.{◌≡◌, ℕ, ◌+◌, ◌-◌, ◌*◌, ◌<◌, ◌≤◌, Bool, List, [], ◌∷◌, length, slice_get, slice_index, map, IsTrue, All}
 use Rattle.std.specs.declared.option.Option.TheVariants.{Some}
 use Rattle.std.specs.List.{slice_index_or, AllPairs}
 use Rattle.graph_laws.specs.Walks.{go}
@@ -58,14 +58,18 @@ pub record IsHeavy (m : Steps) (limit : ℕ) : Type 0 where
   pub reached : All (IsReached m) keys
   pub over : limit < weigh m keys
 
--- distinct reached keys of two machines together weigh more than the limit
-pub record IsHeavyInTwo (a b : Steps) (limit : ℕ) : Type 0 where
+-- the second of two machines, which starts at the key to which each key of the first leads
+abbrev pub led_by : (List ℕ → List ℕ) → Steps → List (List ℕ) → Steps
+led_by lead b keys = record b { starts = map lead keys }
+
+-- distinct reached keys of the first of two machines, and of the second as those keys lead to it, together weigh more than the limit
+pub record IsHeavyInTwo (a : Steps) (lead : List ℕ → List ℕ) (b : Steps) (limit : ℕ) : Type 0 where
   pub keys : List (List ℕ)
   pub other_keys : List (List ℕ)
   pub distinct : IsDistinct keys
   pub other_distinct : IsDistinct other_keys
   pub reached : All (IsReached a) keys
-  pub other_reached : All (IsReached b) other_keys
+  pub other_reached : All (IsReached (led_by lead b keys)) other_keys
   pub over : limit < weigh a keys + weigh b other_keys
 
 -- keys, the sum of their cells, and positions for the starts and, in flat rows of one entry a letter, for each key and letter
@@ -99,3 +103,8 @@ pub record IsExplored (m : Steps) (limit : ℕ) (t : KeyTable) : Type 0 where
   pub valid : All (IsPath m) paths
   pub rising : IsRising paths
   pub least : (p : Path) → IsPath m p → AtMost (path_at paths (position t p)) p
+
+-- exactly the reached keys of the first machine, and of the second as they lead to it, which gets what the first left of the limit
+pub record IsExploredInTwo (a : Steps) (lead : List ℕ → List ℕ) (b : Steps) (limit : ℕ) (t u : KeyTable) : Type 0 where
+  pub first_part : IsExplored a limit t
+  pub second_part : IsExplored (led_by lead b t.keys) (limit - t.cells) u

@@ -4,7 +4,7 @@ ghost use Rattle.std.specs.Prelude.{◌≡◌, ◌+◌, ◌-◌, ◌*◌, ◌<�
 ghost use Rattle.std.specs.List.{AllByRecursion};
 ghost use Rattle.graph_laws.specs.Walks.{go};
 ghost use Rattle.graph_laws.specs.Paths.{path_at};
-ghost use Rattle.graph_laws.specs.Exploring.{Steps, KeyTable, IsReached, IsHeavy, IsHeavyInTwo, IsExplored, led, position};
+ghost use Rattle.graph_laws.specs.Exploring.{Steps, KeyTable, IsReached, IsHeavy, IsHeavyInTwo, IsExplored, IsExploredInTwo, led, led_by, position};
 
 /// Heavy and explored exclude each other.
 pub fn heavy_or_explored()
@@ -21,19 +21,19 @@ pub fn positions_follow_keys()
     ensures { (m : Steps) (limit : ℕ) (t : KeyTable) → IsExplored m limit t → (q : ℕ) (k w : List ℕ) → AllByRecursion (λ l. l < t.width) w → slice_get t.keys q ≡ Some k → slice_get t.keys (go t.rows t.width q w) ≡ Some (led m.step k w) }
 {}
 
-/// The first of two explorations is heavy only where both together are.
+/// If the first of two explorations is heavy, both together are.
 pub fn first_of_two()
-    ensures { (a b : Steps) (limit : ℕ) → IsHeavy a limit → IsHeavyInTwo a b limit }
+    ensures { (a : Steps) (lead : List ℕ → List ℕ) (b : Steps) (limit : ℕ) → IsHeavy a limit → IsHeavyInTwo a lead b limit }
 {}
 
-/// The second of two explorations, at what the first left of the limit, is heavy only where both together are.
+/// If the second of two explorations is heavy at what the first left of the limit, both together are.
 pub fn second_of_two()
-    ensures { (a b : Steps) (limit : ℕ) (t : KeyTable) → IsExplored a limit t → IsHeavy b (limit - t.cells) → IsHeavyInTwo a b limit }
+    ensures { (a : Steps) (lead : List ℕ → List ℕ) (b : Steps) (limit : ℕ) (t : KeyTable) → IsExplored a limit t → IsHeavy (led_by lead b t.keys) (limit - t.cells) → IsHeavyInTwo a lead b limit }
 {}
 
-/// Where both explorations end, the two together are not heavy.
+/// Heavy in two and explored in two exclude each other.
 pub fn both_explored()
-    ensures { (a b : Steps) (limit : ℕ) (t u : KeyTable) → IsExplored a limit t → IsExplored b (limit - t.cells) u → IsHeavyInTwo a b limit → ⊥ }
+    ensures { (a : Steps) (lead : List ℕ → List ℕ) (b : Steps) (limit : ℕ) (t u : KeyTable) → IsHeavyInTwo a lead b limit → IsExploredInTwo a lead b limit t u → ⊥ }
 {}
 
 /// The path that is listed for a position leads to that position.
