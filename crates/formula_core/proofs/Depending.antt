@@ -8,8 +8,8 @@ use Rattle.std.proofs.lemmas.List.Elements.{recursion_from_All}
 use Rattle.std.proofs.lemmas.Bool.{eq-eqb, eqb-true, lt-ltb, or_left, or_right, or_cases, and_from, cases_lt, false≢true}
 use Rattle.integer_laws.specs.Vectors.{scale}
 use Rattle.integer_laws.proofs.Entries.{entry-scale}
-use Rattle.lash_model.specs.Formulas.{Int, Real, Linear, IsLinear, Formula, Le, Eq, Not, And, Or, Exists}
-use Rattle.lash_model.specs.Meaning.{total, holds}
+use Rattle.lash_model.specs.Formulas.{Int, Real, Linear, IsLinear, Formula, Atom, Not, And, Or, Exists}
+use Rattle.lash_model.specs.Meaning.{total, compares, holds}
 use Rattle.formula_core.specs.Atoms.{HasLinearAtoms}
 use Rattle.formula_core.specs.Counts.{term_uses, uses, free_places}
 use Rattle.formula_core.specs.Marks.{appears}
@@ -71,8 +71,7 @@ total_used a ns ms linear h = total_appears a.terms ns ms (fewer (λ place e. us
 -- what holds of one holds of the other
 depends : (f : Formula) (ns ms : List ℤ) (d : ℕ) → HasLinearAtoms f → Agree (λ place. uses place f) ns ms → holds f ns d → holds f ms d
 unfolding holds
-depends (Le a) ns ms d linear h = λ x. rw (sym (total_used a ns ms linear h)) x
-depends (Eq a) ns ms d linear h = λ x. sym (total_used a ns ms linear h) ∙ x
+depends (Atom kind a) ns ms d linear h = λ x. subst (λ t. compares kind t (a.constant *ℤ pos d)) (total_used a ns ms linear h) x
 depends (Not f) ns ms d linear h = λ x y. x (depends f ms ns d linear (turned h) y)
 depends (And f g) ns ms d linear h =
     let left : Agree (λ place. uses place f) ns ms = fewer (λ place e. or_left (uses place f) (uses place g) e) h in

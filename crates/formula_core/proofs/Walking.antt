@@ -8,7 +8,7 @@ use Rattle.std.specs.Option.{is_some}
 use Rattle.std.specs.Cmp.{nat_eq_equiv}
 use Rattle.std.proofs.lemmas.Bool.{false≢true}
 use Rattle.std.proofs.lemmas.List.Folds.{list_any_more}
-use Rattle.lash_model.specs.Formulas.{Sort, Linear, IsLinear, Formula, Le, Eq, Not, And, Or, Exists}
+use Rattle.lash_model.specs.Formulas.{Sort, Linear, IsLinear, Formula, Comparison, Atom, Not, And, Or, Exists}
 use Rattle.formula_core.specs.Counts.{term_uses, uses, free_places}
 use Rattle.formula_core.specs.FewLetters.{AreFew, HasFewLetters, FitsLetters}
 use Rattle.formula_core.specs.Marks.{appears}
@@ -91,22 +91,16 @@ judges_same base test other n r same j = by r j
 -- the formula's own letters are few
 own_few : (base : ℕ) (f : Formula) (n : ℕ) → HasFewLetters base f n → AreFew base (length (free_places f n))
 unfolding HasFewLetters
-own_few base (Le a) n h = h
-own_few base (Eq a) n h = h
+own_few base (Atom kind a) n h = h
 own_few base (Not f) n h = h.0
 own_few base (And f g) n h = h.0
 own_few base (Or f g) n h = h.0
 own_few base (Exists s f) n h = h.0
 
-pub found_le : (base : ℕ) (a : Linear) (n : ℕ) (r : Option (List ℕ)) → Judges base (λ k. term_uses k a) n r → Finds base (Le a) n r
+pub found_atom : (base : ℕ) (kind : Comparison) (a : Linear) (n : ℕ) (r : Option (List ℕ)) → Judges base (λ k. term_uses k a) n r → Finds base (Atom kind a) n r
 unfolding HasFewLetters
-found_le base a n None j = j
-found_le base a n (Some xs) j = j
-
-pub found_eq : (base : ℕ) (a : Linear) (n : ℕ) (r : Option (List ℕ)) → Judges base (λ k. term_uses k a) n r → Finds base (Eq a) n r
-unfolding HasFewLetters
-found_eq base a n None j = j
-found_eq base a n (Some xs) j = j
+found_atom base kind a n None j = j
+found_atom base kind a n (Some xs) j = j
 
 pub found_not : (base : ℕ) (f : Formula) (n : ℕ) (r : Option (List ℕ)) → Finds base f n r → Finds base (Not f) n r
 unfolding HasFewLetters

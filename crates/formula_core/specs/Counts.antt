@@ -2,13 +2,12 @@
 use Rattle.std.specs.Prelude.{ℕ, ◌+◌, ◌-◌, ◌^◌, max, Bool, true, false, ◌&&◌, ◌||◌, not, pos, List}
 use Rattle.std.specs.List.{filter, range_with_len}
 use Rattle.std.specs.Ordering.{int_eq}
-use Rattle.lash_model.specs.Formulas.{Sort, Int, Real, Linear, Formula, Le, Eq, Not, And, Or, Exists}
+use Rattle.lash_model.specs.Formulas.{Sort, Int, Real, Linear, Formula, Atom, Not, And, Or, Exists}
 use Rattle.formula_core.specs.Terms.{coefficient_at}
 
 -- each node counts 1
 abbrev pub nodes_of : Formula → ℕ
-nodes_of (Le a) = 1
-nodes_of (Eq a) = 1
+nodes_of (Atom kind a) = 1
 nodes_of (Not f) = nodes_of f + 1
 nodes_of (And f g) = nodes_of f + nodes_of g + 1
 nodes_of (Or f g) = nodes_of f + nodes_of g + 1
@@ -16,8 +15,7 @@ nodes_of (Exists s f) = nodes_of f + 1
 
 -- an atom alone has depth 1
 abbrev pub depth_of : Formula → ℕ
-depth_of (Le a) = 1
-depth_of (Eq a) = 1
+depth_of (Atom kind a) = 1
 depth_of (Not f) = depth_of f + 1
 depth_of (And f g) = max (depth_of f) (depth_of g) + 1
 depth_of (Or f g) = max (depth_of f) (depth_of g) + 1
@@ -33,8 +31,7 @@ is_int Real = false
 
 -- each bound variable is an integer
 abbrev pub binds_ints : Formula → Bool
-binds_ints (Le a) = true
-binds_ints (Eq a) = true
+binds_ints (Atom kind a) = true
 binds_ints (Not f) = binds_ints f
 binds_ints (And f g) = binds_ints f && binds_ints g
 binds_ints (Or f g) = binds_ints f && binds_ints g
@@ -46,8 +43,7 @@ term_uses place a = not (int_eq (coefficient_at a.terms place) (pos 0))
 
 -- the place has a nonzero coefficient in some atom
 abbrev pub uses : ℕ → Formula → Bool
-uses place (Le a) = term_uses place a
-uses place (Eq a) = term_uses place a
+uses place (Atom kind a) = term_uses place a
 uses place (Not f) = uses place f
 uses place (And f g) = uses place f || uses place g
 uses place (Or f g) = uses place f || uses place g

@@ -1,6 +1,6 @@
 -- Formulas whose letters are few, as the tables of their subformulas ask (own). A letter has one digit for each free variable.
 use Rattle.std.specs.Prelude.{ℕ, ◌+◌, ◌^◌, ◌≤◌, length}
-use Rattle.lash_model.specs.Formulas.{Formula, Le, Eq, Not, And, Or, Exists}
+use Rattle.lash_model.specs.Formulas.{Formula, Atom, Not, And, Or, Exists}
 use Rattle.formula_core.specs.Counts.{free_places}
 
 -- over so many tracks there are at most 4,096 letters
@@ -9,8 +9,7 @@ AreFew base tracks = base ^ tracks ≤ 4096
 
 -- the letters over the free variables of the formula, which is over m variables, are few, and so are those of each subformula
 unfoldable pub HasFewLetters : ℕ → Formula → ℕ → Type 0
-HasFewLetters base (Le a) m = AreFew base (length (free_places (Le a) m))
-HasFewLetters base (Eq a) m = AreFew base (length (free_places (Eq a) m))
+HasFewLetters base (Atom kind a) m = AreFew base (length (free_places (Atom kind a) m))
 HasFewLetters base (Not f) m = AreFew base (length (free_places (Not f) m)) × HasFewLetters base f m
 HasFewLetters base (And f g) m = AreFew base (length (free_places (And f g) m)) × HasFewLetters base f m × HasFewLetters base g m
 HasFewLetters base (Or f g) m = AreFew base (length (free_places (Or f g) m)) × HasFewLetters base f m × HasFewLetters base g m

@@ -8,7 +8,7 @@ use Rattle.std.proofs.lemmas.List.{length-map}
 use Rattle.parser_laws.proofs.Parts.{same_some, not_none}
 use Rattle.std.proofs.lemmas.List.Quantifiers.{position-Some}
 use Rattle.std.specs.Prelude.{unsigned_abs}
-use Rattle.lash_model.specs.Formulas.{Sort, Formula, Le}
+use Rattle.lash_model.specs.Formulas.{Sort, Formula, AtMost, Atom}
 use Rattle.formula_core.specs.Variables.{sorts_of}
 use Rattle.fraction_codes.specs.Fractions.{IsSmall}
 use Rattle.fraction_codes.specs.declared.ratio.Ratio.{Ratio}
@@ -67,7 +67,7 @@ place_below : (kept : List KeptSet) (name : List ℕ) (at : ℕ) → kept_place 
 place_below kept name at e = (position-Some _ kept at nothing e).0
   where
     nothing : KeptSet
-    nothing = record { name = []; vars = []; formula = Le (record { terms = []; constant = pos 0 }) }
+    nothing = record { name = []; vars = []; formula = Atom AtMost (record { terms = []; constant = pos 0 }) }
 
 new_name : (name : Named) (p : Option ℕ) (y : Option FaultAt) → or_else (repeated name p) y ≡ None → p ≡ None
 new_name name None y e = refl

@@ -6,7 +6,7 @@ use Rattle.std.proofs.lemmas.Bool.{ltb-false, true≢false}
 use Rattle.std.proofs.lemmas.List.{length-append, length-map}
 use Rattle.std.proofs.lemmas.List.Elements.{All-from_recursion}
 use Rattle.std.proofs.lemmas.Bool.{eqb-true}
-use Rattle.lash_model.specs.Formulas.{Int, Linear, Formula, Le as CoreLe, Eq as CoreEq, Not as CoreNot, And as CoreAnd, Or as CoreOr, Exists as CoreExists}
+use Rattle.lash_model.specs.Formulas.{Int, Linear, Formula, Atom as CoreAtom, Not as CoreNot, And as CoreAnd, Or as CoreOr, Exists as CoreExists}
 use Rattle.lash_model.specs.Standing.{all_int}
 use Rattle.parser_laws.proofs.Parts.{same_some, not_none}
 use Rattle.formula_core.specs.Counts.{nodes_of, depth_of}
@@ -37,8 +37,7 @@ pub record IsFine (k : KeptSet) : Type 0 where
 
 -- substitution binds what was bound
 substituted_bound : (f : Formula) (terms : List Linear) (places : ℕ) → BindsIntegers f → BindsIntegers (substituted f terms places)
-substituted_bound (CoreLe a) terms places h = tt
-substituted_bound (CoreEq a) terms places h = tt
+substituted_bound (CoreAtom kind a) terms places h = tt
 substituted_bound (CoreNot f) terms places h = substituted_bound f terms places h
 substituted_bound (CoreAnd f g) terms places h = (substituted_bound f terms places h.0, substituted_bound g terms places h.1)
 substituted_bound (CoreOr f g) terms places h = (substituted_bound f terms places h.0, substituted_bound g terms places h.1)

@@ -5,8 +5,8 @@ use mathlib.Core.Logic.{inl, inr}
 use Rattle.integer_laws.specs.Vectors.{scale}
 use Rattle.integer_laws.proofs.Ring.{diff_same, diff_mul, by_diff, pos_diff, le_scaled, le_unscaled, eq_unscaled}
 use Rattle.integer_laws.proofs.Entries.{scale-append, scale-scale, scale-product}
-use Rattle.lash_model.specs.Formulas.{Sort, Int, Real, Formula, Le, Eq, Not, And, Or, Exists}
-use Rattle.lash_model.specs.Meaning.{holds, IsWhole, Solves}
+use Rattle.lash_model.specs.Formulas.{Sort, Int, Real, Comparison, AtMost, Equal, Formula, Atom, Not, And, Or, Exists}
+use Rattle.lash_model.specs.Meaning.{compares, holds, IsWhole, Solves}
 use Rattle.lash_model.proofs.Totals.{total-scale}
 
 shift_denominator : (c d : ℕ) (b : ℤ) → pos c *ℤ (b *ℤ pos d) ≡ b *ℤ pos (c * d)
@@ -27,10 +27,13 @@ down_real g c e n m d h = subst (λ v. holds g (v ++ m ∷ []) (suc (c + e * suc
 up_whole : (c : ℕ) (n : List ℤ) (m : ℤ) (d : ℕ) → scale (suc c) (n ++ (m *ℤ pos d) ∷ []) ≡ scale (suc c) n ++ (m *ℤ pos (suc c * d)) ∷ []
 up_whole c n m d = scale-append (suc c) n (m *ℤ pos d) ∙ ap (λ t. scale (suc c) n ++ t ∷ []) (shift_denominator (suc c) d m)
 
+compares-scale : (kind : Comparison) (c : ℕ) (x y : ℤ) → (compares kind x y → compares kind (pos (suc c) *ℤ x) (pos (suc c) *ℤ y)) × (compares kind (pos (suc c) *ℤ x) (pos (suc c) *ℤ y) → compares kind x y)
+compares-scale AtMost c x y = (le_scaled (suc c) x y, le_unscaled c x y)
+compares-scale Equal c x y = (ap (λ t. pos (suc c) *ℤ t), eq_unscaled c x y)
+
 pub holds-scale : (f : Formula) (c : ℕ) (n : List ℤ) (d : ℕ) → (holds f n d → holds f (scale (suc c) n) (suc c * d)) × (holds f (scale (suc c) n) (suc c * d) → holds f n d)
 unfolding holds
-holds-scale (Le a) c n d = (λ h. rw (total-scale (suc c) a.terms n) (rw (sym (shift_denominator (suc c) d a.constant)) (le_scaled (suc c) _ _ h)), λ h. le_unscaled c _ _ (rw (sym (total-scale (suc c) a.terms n)) (rw (shift_denominator (suc c) d a.constant) h)))
-holds-scale (Eq a) c n d = (λ h. total-scale (suc c) a.terms n ∙ ap (λ t. pos (suc c) *ℤ t) h ∙ shift_denominator (suc c) d a.constant, λ h. eq_unscaled c _ _ (sym (total-scale (suc c) a.terms n) ∙ h ∙ sym (shift_denominator (suc c) d a.constant)))
+holds-scale (Atom kind a) c n d = (λ h. rw (total-scale (suc c) a.terms n) (rw (sym (shift_denominator (suc c) d a.constant)) ((compares-scale kind c _ _).0 h)), λ h. (compares-scale kind c _ _).1 (rw (sym (total-scale (suc c) a.terms n)) (rw (shift_denominator (suc c) d a.constant) h)))
 holds-scale (Not f) c n d = (λ h k. h ((holds-scale f c n d).1 k), λ h k. h ((holds-scale f c n d).0 k))
 holds-scale (And f g) c n d = (λ h. ((holds-scale f c n d).0 h.0, (holds-scale g c n d).0 h.1), λ h. ((holds-scale f c n d).1 h.0, (holds-scale g c n d).1 h.1))
 holds-scale (Or f g) c n d = (λ h. elim h [ inl x ↦ inl ((holds-scale f c n d).0 x) | inr y ↦ inr ((holds-scale g c n d).0 y) ], λ h. elim h [ inl x ↦ inl ((holds-scale f c n d).1 x) | inr y ↦ inr ((holds-scale g c n d).1 y) ])

@@ -27,20 +27,15 @@ pub record IsInside (a : Linear) : Type 0 where
   pub coefficients : coefficient_sum a.terms ≤ 2 ^ 24
   pub constant : unsigned_abs a.constant ≤ 2 ^ 40
 
--- `Le` holds where the sum of coefficient times value is at most the constant, and `Eq` where it is equal
-pub data Formula : Type 0 where
-  Le : Linear → Formula
-  Eq : Linear → Formula
-  Not : Formula → Formula
-  And : Formula → Formula → Formula
-  Or : Formula → Formula → Formula
-  Exists : Sort → Formula → Formula
-
--- whether an atom compares its sum to its constant by at most, or by equal
+-- how an atom compares its sum to its constant: by at most, or by equal
 pub data Comparison : Type 0 where
   AtMost : Comparison
   Equal : Comparison
 
-abbrev pub atom : Comparison → Linear → Formula
-atom AtMost a = Le a
-atom Equal a = Eq a
+-- an atom compares the sum of coefficient times value to the term's constant
+pub data Formula : Type 0 where
+  Atom : Comparison → Linear → Formula
+  Not : Formula → Formula
+  And : Formula → Formula → Formula
+  Or : Formula → Formula → Formula
+  Exists : Sort → Formula → Formula

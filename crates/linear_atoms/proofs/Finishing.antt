@@ -3,7 +3,7 @@ use Rattle.std.proofs.Common.{◌≡◌, ℕ, ◌+◌, ◌-◌, ◌*◌, ◌^◌
 use Rattle.std.proofs.Math.IntN.{ℤ}
 use Rattle.std.specs.List.{slice_index_or, AllByRecursion}
 use Rattle.std.proofs.lemmas.List.Elements.{All-weaker}
-use Rattle.lash_model.specs.Formulas.{Linear, Comparison, atom}
+use Rattle.lash_model.specs.Formulas.{Linear, Comparison, Atom}
 use Rattle.lash_model.specs.Meaning.{holds}
 use Rattle.lash_model.specs.Tables.{Table}
 use Rattle.lash_model.specs.Standing.{StandsForWhole}
@@ -92,5 +92,5 @@ atom_table kind a r n totals ts room limit k t e few fits f = record {
   within = few_cells (length ts) room (r ^ n) limit (some_threshold kind a.constant r (length totals) (entry totals) ts e) few fits;
 }
 
-pub atom_stands : (kind : Comparison) (a : Linear) (r n limit : ℕ) (t : Table) → 0 < r → IsAtomTable kind a r n limit t → StandsForWhole t (holds (atom kind a))
+pub atom_stands : (kind : Comparison) (a : Linear) (r n limit : ℕ) (t : Table) → 0 < r → IsAtomTable kind a r n limit t → StandsForWhole t (holds (Atom kind a))
 atom_stands kind a r n limit t h i = counting_stands kind a r n i.found t h i.counts i.thresholds

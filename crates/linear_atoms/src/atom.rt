@@ -2,7 +2,7 @@
 //! Costs a look-up for each threshold and letter, and one sweep over the thresholds for each letter.
 
 ghost use Rattle.std.specs.Prelude.{◌≡◌, ℕ, ℤ, pos, ◌+◌, ◌-◌, ◌*◌, ◌^◌, ◌<◌, ◌≤◌, ◌-ℤ◌, List, length, All, unsigned_abs, IfOk, IfErr};
-ghost use Rattle.lash_model.specs.Formulas.{IsInside, atom as atom_of};
+ghost use Rattle.lash_model.specs.Formulas.{IsInside, Atom};
 ghost use Rattle.lash_model.specs.Meaning.{holds};
 ghost use Rattle.lash_model.specs.Tables.{IsTable};
 ghost use Rattle.lash_model.specs.Standing.{StandsForWhole};
@@ -72,7 +72,7 @@ pub fn atom_int(
     requires inside { IsInside atom.now }
     requires letters { base ^ tracks ≤ 4096 }
     requires limit { limit ≤ 16777216 }
-    ensures stands { IfOk result (λ t. StandsForWhole t.table (holds (atom_of (comparison_of kind) atom.now))) }
+    ensures stands { IfOk result (λ t. StandsForWhole t.table (holds (Atom (comparison_of kind) atom.now))) }
     ensures counts { IfOk result (λ t. IsAtomTable (comparison_of kind) atom.now base tracks limit t.table) }
     ensures table { IfOk result (λ t. IsTable t.table) }
     ensures heavy { IfErr result (λ e. e ≡ BuildError.Heavy → IsHeavyAtom (comparison_of kind) atom.now base tracks limit) }

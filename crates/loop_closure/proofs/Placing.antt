@@ -5,7 +5,7 @@ use Rattle.std.specs.List.{AllByRecursion}
 use Rattle.std.proofs.lemmas.Bool.{ltb-false, true≢false}
 use Rattle.std.proofs.lemmas.List.Elements.{All-from_recursion}
 use Rattle.lash_model.specs.Formulas as formulas
-use Rattle.lash_model.specs.Formulas.{Linear, Int, Real, Formula, Le, Eq, Not, And, Or, Exists}
+use Rattle.lash_model.specs.Formulas.{Linear, Int, Real, Formula, AtMost, Equal, Atom, Not, And, Or, Exists}
 use Rattle.formula_core.specs.Counts.{binds_ints}
 use Rattle.formula_core.specs.Terms.{added}
 use Rattle.term_substitution.specs.Conditions.{IsOver}
@@ -49,10 +49,9 @@ exists_part : (m : ℕ) (f : Formula) → IsPart (m + 1) f → IsPart m (Exists 
 exists_part m f p = record { over = λ few small. p.over few small; ints = p.ints }
 
 member_ints : (f : Formula) → IsMember f → binds_ints f ≡ true
-member_ints (Le a) h = refl
-member_ints (Eq a) h = refl
-member_ints (Not (Le a)) h = refl
-member_ints (Not (Eq a)) h = absurd h
+member_ints (Atom kind a) h = refl
+member_ints (Not (Atom AtMost a)) h = refl
+member_ints (Not (Atom Equal a)) h = absurd h
 member_ints (Not (Not f)) h = absurd h
 member_ints (Not (And f g)) h = absurd h
 member_ints (Not (Or f g)) h = absurd h
@@ -63,16 +62,14 @@ member_ints (Exists s f) h = absurd h
 
 -- a guard binds nothing
 guard_ints : (f : Formula) → IsGuard f → binds_ints f ≡ true
-guard_ints (Le a) h = refl
-guard_ints (Eq a) h = refl
+guard_ints (Atom kind a) h = refl
 guard_ints (Not f) h = member_ints (Not f) h
 guard_ints (And f g) h = both_true (binds_ints f) (binds_ints g) (guard_ints f h.0) (member_ints g h.1)
 guard_ints (Or f g) h = absurd h
 guard_ints (Exists s f) h = absurd h
 
 same_ints : (f : Formula) (terms : List Linear) (k : ℕ) → binds_ints (substituted f terms k) ≡ binds_ints f
-same_ints (Le a) terms k = refl
-same_ints (Eq a) terms k = refl
+same_ints (Atom kind a) terms k = refl
 same_ints (Not f) terms k = same_ints f terms k
 same_ints (And f g) terms k = ap₂ (λ a b. a && b) (same_ints f terms k) (same_ints g terms k)
 same_ints (Or f g) terms k = ap₂ (λ a b. a && b) (same_ints f terms k) (same_ints g terms k)

@@ -68,7 +68,7 @@ joined_on op (Some f) fs = Some (joined_to op f fs)
 
 -- the whole formula
 abbrev pub settled : Option model.Formula → model.Formula
-settled None = model.Le zero_term
+settled None = model.Atom model.AtMost zero_term
 settled (Some f) = f
 
 -- turns beyond a multiple of the power, which stands at the place

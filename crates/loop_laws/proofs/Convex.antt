@@ -6,8 +6,8 @@ use Rattle.std.specs.Prelude.{◌≤ℤ◌}
 use Rattle.std.proofs.lemmas.Int.{ints}
 use Rattle.std.proofs.lemmas.Nat.{mul-le}
 use Rattle.integer_laws.proofs.Ring.{times_comm, times_assoc, times_sum, times_zero}
-use Rattle.lash_model.specs.Formulas.{Formula, Le, Eq, Not, And, Or, Exists}
-use Rattle.lash_model.specs.Meaning.{total, holds}
+use Rattle.lash_model.specs.Formulas.{Formula, Comparison, AtMost, Equal, Atom, Not, And, Or, Exists}
+use Rattle.lash_model.specs.Meaning.{total, compares, holds}
 use Rattle.loop_laws.specs.Turns.{IsMember, IsGuard}
 
 -- a number that moves on by the same from step to step
@@ -55,13 +55,11 @@ even_total z (t ∷ ts) h =
 abbrev AreBetween : List ℤ → List ℤ → List ℤ → Type 0
 AreBetween a b c = (ts : List (ℕ × ℤ)) → IsBetween (total ts a) (total ts b) (total ts c)
 
-le_between : (a b c k : ℤ) → IsBetween a b c → a ≤ℤ k → c ≤ℤ k → b ≤ℤ k
-le_between a b c k (inl h) f g = omega (arith, ints, h.1, g)
-le_between a b c k (inr h) f g = omega (arith, ints, h.1, f)
-
-eq_between : (a b c k : ℤ) → IsBetween a b c → a ≡ k → c ≡ k → b ≡ k
-eq_between a b c k (inl h) f g = omega (arith, ints, h.0, h.1, f, g)
-eq_between a b c k (inr h) f g = omega (arith, ints, h.0, h.1, f, g)
+compares_between : (kind : Comparison) (a b c k : ℤ) → IsBetween a b c → compares kind a k → compares kind c k → compares kind b k
+compares_between AtMost a b c k (inl h) f g = omega (arith, ints, h.1, g)
+compares_between AtMost a b c k (inr h) f g = omega (arith, ints, h.1, f)
+compares_between Equal a b c k (inl h) f g = omega (arith, ints, h.0, h.1, f, g)
+compares_between Equal a b c k (inr h) f g = omega (arith, ints, h.0, h.1, f, g)
 
 above_between : (a b c k : ℤ) → IsBetween a b c → (a ≤ℤ k → ⊥) → (c ≤ℤ k → ⊥) → b ≤ℤ k → ⊥
 above_between a b c k (inl h) f g le = f (omega (arith, ints, h.0, le))
@@ -69,10 +67,9 @@ above_between a b c k (inr h) f g le = g (omega (arith, ints, h.0, le))
 
 member_between : (f : Formula) (a b c : List ℤ) (d : ℕ) → IsMember f → AreBetween a b c → holds f a d → holds f c d → holds f b d
 unfolding holds
-member_between (Le t) a b c d m h x y = le_between _ _ _ _ (h t.terms) x y
-member_between (Eq t) a b c d m h x y = eq_between _ _ _ _ (h t.terms) x y
-member_between (Not (Le t)) a b c d m h x y = above_between _ _ _ _ (h t.terms) x y
-member_between (Not (Eq t)) a b c d m h x y = absurd m
+member_between (Atom kind t) a b c d m h x y = compares_between kind _ _ _ _ (h t.terms) x y
+member_between (Not (Atom AtMost t)) a b c d m h x y = above_between _ _ _ _ (h t.terms) x y
+member_between (Not (Atom Equal t)) a b c d m h x y = absurd m
 member_between (Not (Not f)) a b c d m h x y = absurd m
 member_between (Not (And f g)) a b c d m h x y = absurd m
 member_between (Not (Or f g)) a b c d m h x y = absurd m
@@ -83,8 +80,7 @@ member_between (Exists s f) a b c d m h x y = absurd m
 
 guard_between : (f : Formula) (a b c : List ℤ) (d : ℕ) → IsGuard f → AreBetween a b c → holds f a d → holds f c d → holds f b d
 unfolding holds
-guard_between (Le t) a b c d m h x y = le_between _ _ _ _ (h t.terms) x y
-guard_between (Eq t) a b c d m h x y = eq_between _ _ _ _ (h t.terms) x y
+guard_between (Atom kind t) a b c d m h x y = compares_between kind _ _ _ _ (h t.terms) x y
 guard_between (Not f) a b c d m h x y = member_between (Not f) a b c d m h x y
 guard_between (And f g) a b c d m h x y = (guard_between f a b c d m.0 h x.0 y.0, member_between g a b c d m.1 h x.1 y.1)
 guard_between (Or f g) a b c d m h x y = absurd m

@@ -3,7 +3,7 @@
 -- least 1, which stands behind all other places, and i below p. In the second case the guard is asked at the first and the last turns only,
 -- for each remainder of p: it holds between.
 use Rattle.std.specs.Prelude.{ℕ, zero, suc, ◌+◌, Bool, true, false, List, [], ◌∷◌, ◌++◌, ℤ, pos, negsuc, ◌-ℤ◌, ◌*ℤ◌}
-use Rattle.lash_model.specs.Formulas.{Linear, Int, Formula, Le, Eq, And, Or, Exists}
+use Rattle.lash_model.specs.Formulas.{Linear, Int, Formula, AtMost, Equal, Atom, And, Or, Exists}
 use Rattle.formula_core.specs.Terms.{added}
 use Rattle.term_substitution.specs.Substitution.{substituted, variable_term, zero_term}
 use Rattle.matrix_powers.specs.Matrices.{power_entry}
@@ -21,7 +21,7 @@ joined_to op f [] = f
 joined_to op f (g ∷ gs) = joined_to op (op f g) gs
 
 abbrev pub joined : (Formula → Formula → Formula) → List Formula → Formula
-joined op [] = Le zero_term
+joined op [] = Atom AtMost zero_term
 joined op (f ∷ fs) = joined_to op f fs
 
 -- a coefficient for each of the places 0 to n - 1
@@ -39,7 +39,7 @@ late_term l p j place back row = record { terms = added (coefficients (power_ent
 
 -- the equation of two variables
 abbrev pub same : Formula
-same = Eq (record { terms = (0, pos 1) ∷ (1, negsuc 0) ∷ []; constant = pos 0 })
+same = Atom Equal (record { terms = (0, pos 1) ∷ (1, negsuc 0) ∷ []; constant = pos 0 })
 
 -- the variable at the place is the term
 abbrev pub equation : ℕ → Linear → ℕ → Formula
@@ -55,11 +55,11 @@ guarded l term places = substituted l.guard (gathered (λ row. term row ∷ []) 
 
 -- the variable at the place is 1
 abbrev pub is_one : ℕ → Formula
-is_one place = Eq (record { terms = added [] place (pos 1); constant = pos 1 })
+is_one place = Atom Equal (record { terms = added [] place (pos 1); constant = pos 1 })
 
 -- it is at least 1
 abbrev pub is_some : ℕ → Formula
-is_some place = Le (record { terms = added [] place (negsuc 0); constant = negsuc 0 })
+is_some place = Atom AtMost (record { terms = added [] place (negsuc 0); constant = negsuc 0 })
 
 -- the number of turns stands behind x and y
 abbrev pub count_place : Body → ℕ

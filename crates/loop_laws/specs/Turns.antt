@@ -1,7 +1,7 @@
 -- Loops, by iteration. A turn is allowed where the guard holds at the current vector, and leads from x to A x + b.
 use Rattle.std.specs.Prelude.{◌≡◌, ℕ, zero, suc, List, ℤ, pos, ◌+ℤ◌, ◌*ℤ◌}
 use Rattle.integer_laws.specs.Vectors.{vector}
-use Rattle.lash_model.specs.Formulas.{Formula, Le, Eq, Not, And, Or, Exists}
+use Rattle.lash_model.specs.Formulas.{Formula, AtMost, Equal, Atom, Not, And, Or, Exists}
 use Rattle.lash_model.specs.Meaning.{holds}
 use Rattle.matrix_powers.specs.Matrices.{Square, entry, sum_below}
 use Rattle.matrix_powers.specs.Orbits.{at_row}
@@ -23,10 +23,9 @@ after l d (suc k) x y = holds l.guard x d × after l d k (turned l d x) y
 
 -- a comparison that holds between two points of a line where it holds at both
 abbrev pub IsMember : Formula → Type 0
-IsMember (Le a) = Unit {0}
-IsMember (Eq a) = Unit {0}
-IsMember (Not (Le a)) = Unit {0}
-IsMember (Not (Eq a)) = ⊥
+IsMember (Atom kind a) = Unit {0}
+IsMember (Not (Atom AtMost a)) = Unit {0}
+IsMember (Not (Atom Equal a)) = ⊥
 IsMember (Not (Not f)) = ⊥
 IsMember (Not (And f g)) = ⊥
 IsMember (Not (Or f g)) = ⊥
@@ -37,8 +36,7 @@ IsMember (Exists s f) = ⊥
 
 -- one such comparison, or a guard and one more
 abbrev pub IsGuard : Formula → Type 0
-IsGuard (Le a) = Unit {0}
-IsGuard (Eq a) = Unit {0}
+IsGuard (Atom kind a) = Unit {0}
 IsGuard (Not f) = IsMember (Not f)
 IsGuard (And f g) = IsGuard f × IsMember g
 IsGuard (Or f g) = ⊥

@@ -1,6 +1,6 @@
 -- The core formula that a tree stands for.
 use Rattle.std.specs.Prelude.{ℕ, nat_eq, List, [], ◌∷◌, length, map, Bool, true, false, not, Option, None, Some, ℤ, pos, negsuc, neg_ℤ, ◌+ℤ◌, ◌-ℤ◌, if◌then◌else◌}
-use Rattle.lash_model.specs.Formulas.{Sort, Linear, Formula, Le, Eq, Not as CoreNot, And as CoreAnd, Or as CoreOr, Exists as CoreExists}
+use Rattle.lash_model.specs.Formulas.{Sort, Linear, Formula, AtMost as CoreAtMost, Equal as CoreEqual, Atom as CoreAtom, Not as CoreNot, And as CoreAnd, Or as CoreOr, Exists as CoreExists}
 use Rattle.formula_core.specs.Terms.{added}
 use Rattle.script_grammar.specs.Views.{Relation, AtMost, Below, AtLeast, Above, Equal, Unequal, Quantifier, Exists, Forall}
 use Rattle.script_syntax.specs.Trees.{PartShape, Constant, Scaled, Variable, SignedShape, DeclarationShape, TreeShape, Truth, Compare, Call, Not, And, Or, Implies, Equivalent, Quantified}
@@ -52,16 +52,16 @@ difference scope left right = record {
 
 -- an atom that always holds, and one that never does
 abbrev pub truth : Bool → Formula
-truth b = Le (record { terms = []; constant = if b then pos 0 else negsuc 0 })
+truth b = CoreAtom CoreAtMost (record { terms = []; constant = if b then pos 0 else negsuc 0 })
 
 -- a strict relation is the negation of the other one with its sides exchanged
 abbrev pub compared : Scope → List SignedShape → Relation → List SignedShape → Formula
-compared scope left AtMost right = Le (difference scope left right)
-compared scope left AtLeast right = Le (difference scope right left)
-compared scope left Below right = CoreNot (Le (difference scope right left))
-compared scope left Above right = CoreNot (Le (difference scope left right))
-compared scope left Equal right = Eq (difference scope left right)
-compared scope left Unequal right = CoreNot (Eq (difference scope left right))
+compared scope left AtMost right = CoreAtom CoreAtMost (difference scope left right)
+compared scope left AtLeast right = CoreAtom CoreAtMost (difference scope right left)
+compared scope left Below right = CoreNot (CoreAtom CoreAtMost (difference scope right left))
+compared scope left Above right = CoreNot (CoreAtom CoreAtMost (difference scope left right))
+compared scope left Equal right = CoreAtom CoreEqual (difference scope left right)
+compared scope left Unequal right = CoreNot (CoreAtom CoreEqual (difference scope left right))
 
 -- the atom of a comparison: `>=` and `<` exchange the sides
 abbrev pub compared_atom : Scope → List SignedShape → Relation → List SignedShape → Linear
@@ -74,12 +74,12 @@ compared_atom scope left Unequal right = difference scope left right
 
 -- the formula of a comparison whose atom is given
 abbrev pub claimed : Relation → Linear → Formula
-claimed AtMost a = Le a
-claimed AtLeast a = Le a
-claimed Below a = CoreNot (Le a)
-claimed Above a = CoreNot (Le a)
-claimed Equal a = Eq a
-claimed Unequal a = CoreNot (Eq a)
+claimed AtMost a = CoreAtom CoreAtMost a
+claimed AtLeast a = CoreAtom CoreAtMost a
+claimed Below a = CoreNot (CoreAtom CoreAtMost a)
+claimed Above a = CoreNot (CoreAtom CoreAtMost a)
+claimed Equal a = CoreAtom CoreEqual a
+claimed Unequal a = CoreNot (CoreAtom CoreEqual a)
 
 -- one variable bound; for all is not for some not
 abbrev pub bound : Quantifier → Sort → Formula → Formula

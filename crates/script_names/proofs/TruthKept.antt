@@ -1,10 +1,10 @@
 -- The set of all values of its variables can be kept.
 use Rattle.std.proofs.Common.{◌≡◌, ℕ, ◌≤◌, List, [], length, arith, subst, sym}
 use Rattle.std.proofs.Math.IntN.{ℤ, pos}
-use Rattle.lash_model.specs.Formulas.{Sort, Linear, Formula, Le, coefficient_sum}
+use Rattle.lash_model.specs.Formulas.{Sort, Linear, Formula, AtMost, Atom, coefficient_sum}
 use Rattle.script_names.specs.Kept.{KeptSet, IsKept}
 
-all_kept : (name : List ℕ) (vars : List (List ℕ × Sort)) → length vars ≤ 1 → IsKept (record { name = name; vars = vars; formula = Le (record { terms = []; constant = pos 0 }) })
+all_kept : (name : List ℕ) (vars : List (List ℕ × Sort)) → length vars ≤ 1 → IsKept (record { name = name; vars = vars; formula = Atom AtMost (record { terms = []; constant = pos 0 }) })
 unfolding coefficient_sum
 all_kept name vars few = record {
   few = omega (arith, few);
@@ -13,5 +13,5 @@ all_kept name vars few = record {
   depth = omega arith;
 }
 
-pub truth_kept : (name : List ℕ) (vars : List (List ℕ × Sort)) (a : Linear) → a ≡ record { terms = []; constant = pos 0 } → length vars ≤ 1 → IsKept (record { name = name; vars = vars; formula = Le a })
-truth_kept name vars a is few = subst (λ b. IsKept (record { name = name; vars = vars; formula = Le b })) (sym is) (all_kept name vars few)
+pub truth_kept : (name : List ℕ) (vars : List (List ℕ × Sort)) (a : Linear) → a ≡ record { terms = []; constant = pos 0 } → length vars ≤ 1 → IsKept (record { name = name; vars = vars; formula = Atom AtMost a })
+truth_kept name vars a is few = subst (λ b. IsKept (record { name = name; vars = vars; formula = Atom AtMost b })) (sym is) (all_kept name vars few)

@@ -6,7 +6,7 @@ use Rattle.std.specs.List.{AllByRecursion}
 use Rattle.std.proofs.lemmas.Bool.{false≢true}
 use Rattle.std.proofs.lemmas.List.Elements.{All-from_recursion}
 use Rattle.graph_laws.specs.Exploring.{IsHeavy}
-use Rattle.lash_model.specs.Formulas.{Linear, Formula, Le, Eq, Not, And, Or, Exists, Comparison, AtMost, Equal, atom}
+use Rattle.lash_model.specs.Formulas.{Linear, Formula, Atom, Not, And, Or, Exists, Comparison}
 use Rattle.lash_model.specs.Meaning.{holds}
 use Rattle.lash_model.specs.Tables.{Table, letters}
 use Rattle.lash_model.specs.Standing.{StandsForWhole}
@@ -35,16 +35,16 @@ in_letters : (base n : ℕ) (t : Table) (w : List ℕ) → t.base ≡ base → t
 in_letters base n t w b k h = subst (λ r. All (λ l. l < r ^ n) w) b (subst (λ i. All (λ l. l < t.base ^ i) w) k (All-from_recursion (λ l. l < letters t) w h))
 
 -- ---- atoms
-atom_stands : (kind : Comparison) (a : Linear) (base n limit : ℕ) (t : Table) → IsShaped base n t → IsOfAtom kind a base n limit t → StandsForWhole t (holds (atom kind a))
+atom_stands : (kind : Comparison) (a : Linear) (base n limit : ℕ) (t : Table) → IsShaped base n t → IsOfAtom kind a base n limit t → StandsForWhole t (holds (Atom kind a))
 atom_stands kind a base n limit t shape h =
     let u = h.atom_table in
     let some : 0 < base = omega (arith, shape.canonical.table.shape.base_low, shape.base_is) in
-    stands_carried u t (holds (atom kind a)) (h.counts.counts.steps.base ∙ sym shape.base_is) (h.counts.counts.steps.tracks ∙ sym shape.tracks_are) shape.canonical.diagram h.words
+    stands_carried u t (holds (Atom kind a)) (h.counts.counts.steps.base ∙ sym shape.base_is) (h.counts.counts.steps.tracks ∙ sym shape.tracks_are) shape.canonical.diagram h.words
     (counting_stands kind a base n h.counts.found u some h.counts.counts h.counts.thresholds)
 
 one_atom : (kind : Comparison) (a : Linear) (base n limit : ℕ) (t u : Table) → IsShaped base n t → IsShaped base n u → IsOfAtom kind a base n limit t → IsOfAtom kind a base n limit u → t ≡ u
 one_atom kind a base n limit t u st su ht hu = same_shape base n t u st su
-    (agreeing_accept t u (holds (atom kind a)) (holds (atom kind a)) (st.base_is ∙ sym su.base_is) (st.tracks_are ∙ sym su.tracks_are) (atom_stands kind a base n limit t st ht) (atom_stands kind a base n limit u su hu) (λ sign w lt ls. (λ x. x, λ y. y)))
+    (agreeing_accept t u (holds (Atom kind a)) (holds (Atom kind a)) (st.base_is ∙ sym su.base_is) (st.tracks_are ∙ sym su.tracks_are) (atom_stands kind a base n limit t st ht) (atom_stands kind a base n limit u su hu) (λ sign w lt ls. (λ x. x, λ y. y)))
 
 -- ---- nodes
 one_opposite : (base n : ℕ) (x t u : Table) → IsShaped base n x → IsShaped base n t → IsShaped base n u → AcceptsOthers x t → AcceptsOthers x u → t ≡ u
@@ -76,8 +76,7 @@ pub one_more : (base : ℕ) (f : Formula) (m : ℕ) (u : Table) → uses m f ≡
 one_more base f m u used s = omega (arith, s.tracks_are, used_count f m used)
 
 pub shape_of : (base m limit : ℕ) (f : Formula) (t : Table) → IsMade base m limit f t → IsShaped base (length (free_places f m)) t
-shape_of base m limit (Le a) t h = h.0
-shape_of base m limit (Eq a) t h = h.0
+shape_of base m limit (Atom kind a) t h = h.0
 shape_of base m limit (Not f) t h = h.0
 shape_of base m limit (And f g) t h = h.0
 shape_of base m limit (Or f g) t h = h.0
@@ -86,8 +85,7 @@ shape_of base m limit (Exists s f) t (inr h) = subst (λ n. IsShaped base n t) (
 
 -- a formula's table is made in one way
 pub one_made : (base m limit : ℕ) (f : Formula) (t u : Table) → IsMade base m limit f t → IsMade base m limit f u → t ≡ u
-one_made base m limit (Le a) t u ht hu = one_atom AtMost (own a) base (length (free_places (Le a) m)) limit t u ht.0 hu.0 ht.1 hu.1
-one_made base m limit (Eq a) t u ht hu = one_atom Equal (own a) base (length (free_places (Eq a) m)) limit t u ht.0 hu.0 ht.1 hu.1
+one_made base m limit (Atom kind a) t u ht hu = one_atom kind (own a) base (length (free_places (Atom kind a) m)) limit t u ht.0 hu.0 ht.1 hu.1
 one_made base m limit (Not f) t u ht hu =
     let x : Table = ht.1.0 in
     let same : hu.1.0 ≡ x = one_made base m limit f hu.1.0 x hu.1.1.0 ht.1.1.0 in
@@ -149,8 +147,7 @@ no_pairs law op base m limit f g tracks x y t h hx hy pair =
     law op x y tracks limit pair.pair_table (subst (λ v. IsHeavy (pairs x v tracks) limit) right (subst (λ v. IsHeavy (pairs v h.1.0 tracks) limit) left h.1.1.1)) pair.counts
 
 pub not_made : AtomsExclude → PairsExclude → SubsetsExclude → (base m limit : ℕ) (f : Formula) (t : Table) → IsFirstHeavy base m limit f → IsMade base m limit f t → ⊥
-not_made atoms law subsets base m limit (Le a) t h made = atoms AtMost (own a) base (length (free_places (Le a) m)) limit made.1.atom_table h made.1.counts
-not_made atoms law subsets base m limit (Eq a) t h made = atoms Equal (own a) base (length (free_places (Eq a) m)) limit made.1.atom_table h made.1.counts
+not_made atoms law subsets base m limit (Atom kind a) t h made = atoms kind (own a) base (length (free_places (Atom kind a) m)) limit made.1.atom_table h made.1.counts
 not_made atoms law subsets base m limit (Not f) t h made = not_made atoms law subsets base m limit f made.1.0 h made.1.1.0
 not_made atoms law subsets base m limit (And f g) t (inl h) made = not_made atoms law subsets base m limit f made.1.0 h made.1.1.1.0.0
 not_made atoms law subsets base m limit (And f g) t (inr (inl h)) made = not_made atoms law subsets base m limit g made.1.1.0 h.1 made.1.1.1.0.1

@@ -1,24 +1,31 @@
 -- A node's table from those of its parts, and its first heavy step from theirs.
-use Rattle.std.proofs.Common.{ℕ, ◌≡◌, ◌+◌, ◌^◌, ◌<◌, ◌≤◌, length, true, false, arith, sym, ◌∙◌, subst, IsTrue}
+use Rattle.std.proofs.Common.{ℕ, ◌≡◌, ◌+◌, ◌^◌, ◌<◌, ◌≤◌, length, true, false, arith, sym, ap, ◌∙◌, subst, IsTrue}
 use Rattle.std.proofs.lemmas.Bool.{or_left, or_right}
+use Rattle.std.proofs.lemmas.Result.{IfOk-weaker}
 use Rattle.std.specs.Prelude.{IfOk, IfErr}
 use Rattle.std.specs.declared.result.Result.{Result}
 use Rattle.std.specs.declared.result.Result.TheVariants.{Ok, Err}
 use mathlib.Core.Logic.{inl, inr}
 use Rattle.graph_laws.specs.Exploring.{IsHeavy}
-use Rattle.lash_model.specs.Formulas.{Int, Linear, IsLinear, Formula, Le, Eq, Not, And, Or, Exists, AtMost, Equal}
+use Rattle.lash_model.specs.Formulas.{Int, Linear, IsLinear, Formula, Comparison, Atom, Not, And, Or, Exists}
+use Rattle.lash_model.specs.Meaning.{holds}
+use Rattle.lash_model.specs.Standing.{StandsForWhole}
 use Rattle.lash_model.specs.Tables.{Table}
 use Rattle.threshold_laws.specs.Thresholds.{IsHeavyAtom}
+use Rattle.step_tables.specs.Kept.{Kept}
 use Rattle.formula_core.specs.Counts.{uses, free_places}
 use Rattle.formula_core.specs.FewLetters.{HasFewLetters}
 use Rattle.product_ops.specs.Negation.{AcceptsOthers}
+use Rattle.product_ops.specs.Operations.{set_of}
 use Rattle.product_ops.specs.Pairs.{pairs}
 use Rattle.product_ops.specs.declared.operation.Op.TheVariants.{And as Both, Or as Either}
 use Rattle.subset_build.specs.Projection.{kept, IsHeavyProjection}
-use Rattle.set_compile.specs.Conditions.{IsTermOver, IsNarrow}
-use Rattle.set_compile.specs.Positions.{shared}
+use Rattle.set_compile.specs.Conditions.{IsTermOver, IsOver, IsNarrow}
+use Rattle.set_compile.specs.Positions.{shared, spread}
 use Rattle.set_compile.specs.Steps.{own, IsShaped, IsOfAtom, IsOfPairs, IsOfSubsets, IsMade, IsFirstHeavy}
-use Rattle.set_compile.proofs.OwnTerms.{free_count}
+use Rattle.set_compile.specs.declared.errors.CompileError.{CompileError}
+use Rattle.set_compile.specs.declared.errors.CompileError.TheVariants.{Heavy}
+use Rattle.set_compile.proofs.OwnTerms.{free_count, own_stands}
 use Rattle.set_compile.proofs.Bodies.{used_count, tells_used, tells_unused}
 use Rattle.set_compile.proofs.Making.{one_more, shape_of}
 
@@ -34,28 +41,35 @@ err_weaker (Err e) P Q h p = h e p
 -- ---- letters
 pub is_narrow : (base m : ℕ) (f : Formula) → HasFewLetters base f m → IsNarrow base m f
 unfolding HasFewLetters
-is_narrow base m (Le a) few = few
-is_narrow base m (Eq a) few = few
+is_narrow base m (Atom kind a) few = few
 is_narrow base m (Not f) few = is_narrow base m f few.1
 is_narrow base m (And f g) few = (few.0, (is_narrow base m f few.1, is_narrow base m g few.2))
 is_narrow base m (Or f g) few = (few.0, (is_narrow base m f few.1, is_narrow base m g few.2))
 is_narrow base m (Exists s f) few = is_narrow base (m + 1) f few.1
 
 -- ---- atoms
-pub le_letters : (base m : ℕ) (a : Linear) → IsNarrow base m (Le a) → IsTermOver m a → IsLinear a → base ^ length a.terms ≤ 4096
-le_letters base m a few over h = subst (λ n. base ^ n ≤ 4096) (free_count a m h over.places) few
+pub atom_letters : (kind : Comparison) (base m : ℕ) (a : Linear) → IsNarrow base m (Atom kind a) → IsTermOver m a → IsLinear a → base ^ length a.terms ≤ 4096
+atom_letters kind base m a few over h = subst (λ n. base ^ n ≤ 4096) (free_count kind a m h over.places) few
 
-pub le_made : (base m limit : ℕ) (a : Linear) (t : Table) → IsLinear a → IsTermOver m a → IsShaped base (length a.terms) t → IsOfAtom AtMost (own a) base (length a.terms) limit t → IsMade base m limit (Le a) t
-le_made base m limit a t h over shape made = subst (λ n. IsShaped base n t × IsOfAtom AtMost (own a) base n limit t) (sym (free_count a m h over.places)) (shape, made)
+-- the clauses of a node that is an atom, from those of the atom's own table
+pub atom_shape : {E : Type 0} (kind : Comparison) (base m : ℕ) (a : Linear) (f : Formula) → f ≡ Atom kind a → IsLinear a → IsOver m f → (r : Result Kept E) → IfOk r (λ k. IsShaped base (length a.terms) k.table) → IfOk r (λ k. IsShaped base (length (free_places f m)) k.table)
+atom_shape kind base m a f is h over r shape =
+    subst (λ n. IfOk r (λ k. IsShaped base n k.table)) (sym (free_count kind a m h (subst (IsOver m) is over).places) ∙ ap (λ f. length (free_places f m)) (sym is)) shape
 
-pub eq_made : (base m limit : ℕ) (a : Linear) (t : Table) → IsLinear a → IsTermOver m a → IsShaped base (length a.terms) t → IsOfAtom Equal (own a) base (length a.terms) limit t → IsMade base m limit (Eq a) t
-eq_made base m limit a t h over shape made = subst (λ n. IsShaped base n t × IsOfAtom Equal (own a) base n limit t) (sym (free_count a m h over.places)) (shape, made)
+pub atom_made : {E : Type 0} (kind : Comparison) (base m limit : ℕ) (a : Linear) (f : Formula) → f ≡ Atom kind a → IsLinear a → IsOver m f → (r : Result Kept E) → IfOk r (λ k. IsShaped base (length a.terms) k.table) → IfOk r (λ k. IsOfAtom kind (own a) base (length a.terms) limit k.table) → IfOk r (λ k. IsMade base m limit f k.table)
+atom_made kind base m limit a f is h over r shape made =
+    subst (λ f. IfOk r (λ k. IsMade base m limit f k.table)) (sym is)
+    (subst (λ n. IfOk r (λ k. IsShaped base n k.table × IsOfAtom kind (own a) base n limit k.table)) (sym (free_count kind a m h (subst (IsOver m) is over).places)) (both_ok r _ _ _ (λ k s o. (s, o)) shape made))
 
-pub le_heavy : (base m limit : ℕ) (a : Linear) → IsLinear a → IsTermOver m a → IsHeavyAtom AtMost (own a) base (length a.terms) limit → IsFirstHeavy base m limit (Le a)
-le_heavy base m limit a h over heavy = subst (λ n. IsHeavyAtom AtMost (own a) base n limit) (sym (free_count a m h over.places)) heavy
+pub atom_stands : {E : Type 0} (kind : Comparison) (m : ℕ) (a : Linear) (f : Formula) → f ≡ Atom kind a → IsLinear a → IsOver m f → (r : Result Kept E) → IfOk r (λ k. StandsForWhole k.table (holds (Atom kind (own a)))) → IfOk r (λ k. StandsForWhole k.table (set_of f (spread m (free_places f m))))
+atom_stands kind m a f is h over r stands =
+    subst (λ f. IfOk r (λ k. StandsForWhole k.table (set_of f (spread m (free_places f m))))) (sym is)
+    (IfOk-weaker r _ _ (λ k s. own_stands kind k.table a m h (subst (IsOver m) is over) s) stands)
 
-pub eq_heavy : (base m limit : ℕ) (a : Linear) → IsLinear a → IsTermOver m a → IsHeavyAtom Equal (own a) base (length a.terms) limit → IsFirstHeavy base m limit (Eq a)
-eq_heavy base m limit a h over heavy = subst (λ n. IsHeavyAtom Equal (own a) base n limit) (sym (free_count a m h over.places)) heavy
+pub atom_heavy : {T : Type 0} (kind : Comparison) (base m limit : ℕ) (a : Linear) (f : Formula) → f ≡ Atom kind a → IsLinear a → IsOver m f → (r : Result T CompileError) → IfErr r (λ e. e ≡ Heavy → IsHeavyAtom kind (own a) base (length a.terms) limit) → IfErr r (λ e. e ≡ Heavy → IsFirstHeavy base m limit f)
+atom_heavy kind base m limit a f is h over r heavy =
+    subst (λ f. IfErr r (λ e. e ≡ Heavy → IsFirstHeavy base m limit f)) (sym is)
+    (subst (λ n. IfErr r (λ e. e ≡ Heavy → IsHeavyAtom kind (own a) base n limit)) (sym (free_count kind a m h (subst (IsOver m) is over).places)) heavy)
 
 -- ---- negations
 pub not_made : (base m limit : ℕ) (f : Formula) (u t : Table) → IsMade base m limit f u → IsShaped u.base u.tracks t → AcceptsOthers u t → IsMade base m limit (Not f) t

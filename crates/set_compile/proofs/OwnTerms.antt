@@ -9,8 +9,8 @@ use Rattle.std.proofs.lemmas.Bool.{eq-eqb, ne_eqb, lt-ltb, cases_lt, false_from_
 use Rattle.std.proofs.lemmas.Bool.Decides.{Decides-int_eq}
 use Rattle.std.proofs.lemmas.List.{take_more, length-map, get_or-map, length-take}
 use Rattle.integer_laws.proofs.Entries.{entry-vector}
-use Rattle.lash_model.specs.Formulas.{Linear, IsLinear, IsInside, Le, Eq, coefficient_sum}
-use Rattle.lash_model.specs.Meaning.{total, holds}
+use Rattle.lash_model.specs.Formulas.{Linear, IsLinear, IsInside, Comparison, Atom, coefficient_sum}
+use Rattle.lash_model.specs.Meaning.{total, compares, holds}
 use Rattle.lash_model.specs.Tables.{Table}
 use Rattle.lash_model.specs.Standing.{StandsForWhole}
 use Rattle.formula_core.specs.Terms.{coefficient_at, added}
@@ -88,14 +88,14 @@ passing_heads a (suc n) (t ∷ ts) h = elim (cases_lt a t.0) [
     end n = omega arith
 
 -- the free places of an atom are its terms' places
-pub free_heads : (a : Linear) (m : ℕ) → IsLinear a → All (λ t. t.0 < m) a.terms → free_places (Le a) m ≡ heads a.terms
-free_heads a m h below = passing_heads 0 m a.terms (subst (λ b. Rises 0 b a.terms) (from_zero m) (linear_rises a m h below))
+pub free_heads : (kind : Comparison) (a : Linear) (m : ℕ) → IsLinear a → All (λ t. t.0 < m) a.terms → free_places (Atom kind a) m ≡ heads a.terms
+free_heads kind a m h below = passing_heads 0 m a.terms (subst (λ b. Rises 0 b a.terms) (from_zero m) (linear_rises a m h below))
   where
     from_zero : (m : ℕ) → m ≡ 0 + m
     from_zero m = omega arith
 
-pub free_count : (a : Linear) (m : ℕ) → IsLinear a → All (λ t. t.0 < m) a.terms → length (free_places (Le a) m) ≡ length a.terms
-free_count a m h below = ap length (free_heads a m h below) ∙ length-map a.terms (λ t. t.0)
+pub free_count : (kind : Comparison) (a : Linear) (m : ℕ) → IsLinear a → All (λ t. t.0 < m) a.terms → length (free_places (Atom kind a) m) ≡ length a.terms
+free_count kind a m h below = ap length (free_heads kind a m h below) ∙ length-map a.terms (λ t. t.0)
 
 -- ---- totals
 own_total : (ts : List (ℕ × ℤ)) (k : ℕ) (ns ms : List ℤ) → ((i : ℕ) → i < length ts → get_or ms (get_or ts i (0, pos 0)).0 (pos 0) ≡ get_or ns (k + i) (pos 0)) → total (numbered k ts) ns ≡ total ts ms
@@ -126,31 +126,25 @@ position_at vs i rising lt = by (cases_lt q i) (cases_lt i q)
     by (inr a) (inr b) = omega (arith, a, b)
 
 -- on its own variables the term adds up to what it adds up to on all
-pub own_adds : (a : Linear) (m : ℕ) (ns : List ℤ) → IsLinear a → All (λ t. t.0 < m) a.terms → total (own a).terms ns ≡ total a.terms (spread m (free_places (Le a) m) ns)
-own_adds a m ns h below = own_total a.terms 0 ns (spread m vs ns) (λ i lt.
+pub own_adds : (kind : Comparison) (a : Linear) (m : ℕ) (ns : List ℤ) → IsLinear a → All (λ t. t.0 < m) a.terms → total (own a).terms ns ≡ total a.terms (spread m (free_places (Atom kind a) m) ns)
+own_adds kind a m ns h below = own_total a.terms 0 ns (spread m vs ns) (λ i lt.
     let place : ℕ = (get_or a.terms i (0, pos 0)).0 in
-    let at : get_or vs i 0 ≡ place = ap (λ xs. get_or xs i 0) (free_heads a m h below) ∙ get_or-map (λ t. t.0) a.terms i (0, pos 0) 0 lt in
+    let at : get_or vs i 0 ≡ place = ap (λ xs. get_or xs i 0) (free_heads kind a m h below) ∙ get_or-map (λ t. t.0) a.terms i (0, pos 0) 0 lt in
     entry-vector (λ p. get_or ns (position_of vs p) (pos 0)) m place (below i (0, pos 0) lt)
     ∙ ap (λ p. get_or ns (position_of vs p) (pos 0)) (sym at)
-    ∙ ap (λ j. get_or ns j (pos 0)) (position_at vs i (free_rise (Le a) m) (omega (arith, lt, free_count a m h below)) ∙ from_zero i))
+    ∙ ap (λ j. get_or ns j (pos 0)) (position_at vs i (free_rise (Atom kind a) m) (omega (arith, lt, free_count kind a m h below)) ∙ from_zero i))
   where
     vs : List ℕ
-    vs = free_places (Le a) m
+    vs = free_places (Atom kind a) m
 
     from_zero : (i : ℕ) → i ≡ 0 + i
     from_zero i = omega arith
 
-pub le_stands : (t : Table) (a : Linear) (m : ℕ) → IsLinear a → IsTermOver m a → StandsForWhole t (holds (Le (own a))) → StandsForWhole t (set_of (Le a) (spread m (free_places (Le a) m)))
+pub own_stands : (kind : Comparison) (t : Table) (a : Linear) (m : ℕ) → IsLinear a → IsTermOver m a → StandsForWhole t (holds (Atom kind (own a))) → StandsForWhole t (set_of (Atom kind a) (spread m (free_places (Atom kind a) m)))
 unfolding holds
-le_stands t a m h over s = stands_same t (holds (Le (own a))) (set_of (Le a) (spread m (free_places (Le a) m))) (λ ns count.
-    let e = own_adds a m ns h over.places in
-    (λ x. rw (sym e) x, λ y. rw e y)) s
-
-pub eq_stands : (t : Table) (a : Linear) (m : ℕ) → IsLinear a → IsTermOver m a → StandsForWhole t (holds (Eq (own a))) → StandsForWhole t (set_of (Eq a) (spread m (free_places (Eq a) m)))
-unfolding holds
-eq_stands t a m h over s = stands_same t (holds (Eq (own a))) (set_of (Eq a) (spread m (free_places (Eq a) m))) (λ ns count.
-    let e = own_adds a m ns h over.places in
-    (λ x. sym e ∙ x, λ y. e ∙ y)) s
+own_stands kind t a m h over s = stands_same t (holds (Atom kind (own a))) (set_of (Atom kind a) (spread m (free_places (Atom kind a) m))) (λ ns count.
+    let e = own_adds kind a m ns h over.places in
+    (subst (λ x. compares kind x (a.constant *ℤ pos 1)) e, subst (λ x. compares kind x (a.constant *ℤ pos 1)) (sym e))) s
 
 -- ---- building the term
 pub coefficient_behind : (ts : List (ℕ × ℤ)) (p : ℕ) → AllByRecursion (λ t. t.0 < p) ts → coefficient_at ts p ≡ pos 0

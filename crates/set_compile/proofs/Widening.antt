@@ -3,7 +3,7 @@ use Rattle.std.proofs.Common.{◌≡◌, ℕ, ◌^◌, ◌<◌, ◌≤◌, [], l
 use Rattle.std.proofs.Math.IntN.{pos}
 use Rattle.std.proofs.Math.Nat.{pow-zero}
 use mathlib.Core.Logic.{◌⊎◌, inl, inr}
-use Rattle.lash_model.specs.Formulas.{Linear, Formula, coefficient_sum}
+use Rattle.lash_model.specs.Formulas.{Linear, Formula, AtMost, coefficient_sum}
 use Rattle.lash_model.specs.Tables.{Table}
 use Rattle.formula_core.specs.Counts.{uses, free_places}
 use Rattle.product_ops.specs.Tracks.{TrackLists}
@@ -22,7 +22,7 @@ unfolding coefficient_sum
 always_over m = record { places = λ i d lt. absurd (omega (arith, lt)); inside = record { coefficients = omega arith; constant = omega arith } }
 
 pub always_free : (m : ℕ) → free_places always m ≡ []
-always_free m = free_heads nothing m (record { rising = λ i j d lt within. absurd (omega (arith, within)); nonzero = λ i d lt. absurd (omega (arith, lt)) }) (always_over m).places
+always_free m = free_heads AtMost nothing m (record { rising = λ i j d lt within. absurd (omega (arith, within)); nonzero = λ i d lt. absurd (omega (arith, lt)) }) (always_over m).places
 
 no_letters : (base : ℕ) → base ^ 0 ≤ 4096
 no_letters base = omega (arith, pow-zero base)

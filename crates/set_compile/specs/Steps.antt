@@ -2,7 +2,7 @@
 -- whole limit of cells. A complement has no cells, and a bound variable that its body does not use costs no step.
 use Rattle.std.specs.Prelude.{◌≡◌, ℕ, suc, ◌+◌, ◌<◌, ◌⊎◌, true, false, List, [], ◌∷◌, length, ℤ, pos}
 use Rattle.graph_laws.specs.Exploring.{IsHeavy}
-use Rattle.lash_model.specs.Formulas.{Linear, Formula, Le, Eq, Not, And, Or, Exists, Comparison, AtMost, Equal}
+use Rattle.lash_model.specs.Formulas.{Linear, Formula, Atom, Not, And, Or, Exists, Comparison, AtMost}
 use Rattle.lash_model.specs.Tables.{Table}
 use Rattle.threshold_laws.specs.Thresholds.{IsAtomTable, IsHeavyAtom}
 use Rattle.canonical_laws.specs.Canonical.{IsCanonical, AcceptSameWords}
@@ -51,8 +51,7 @@ pub record IsOfSubsets (u : Table) (track limit : ℕ) (t : Table) : Type 0 wher
 -- the canonical table of a formula over m variables, over the free ones among them, all of whose steps are within the limit. A variable
 -- that is bound over m variables stands at place m: where the body uses it, its track is the last of the body's table
 abbrev pub IsMade : ℕ → ℕ → ℕ → Formula → Table → Type 0
-IsMade base m limit (Le a) t = IsShaped base (length (free_places (Le a) m)) t × IsOfAtom AtMost (own a) base (length (free_places (Le a) m)) limit t
-IsMade base m limit (Eq a) t = IsShaped base (length (free_places (Eq a) m)) t × IsOfAtom Equal (own a) base (length (free_places (Eq a) m)) limit t
+IsMade base m limit (Atom kind a) t = IsShaped base (length (free_places (Atom kind a) m)) t × IsOfAtom kind (own a) base (length (free_places (Atom kind a) m)) limit t
 IsMade base m limit (Not f) t = IsShaped base (length (free_places (Not f) m)) t × ((u : Table) × (IsMade base m limit f u × AcceptsOthers u t))
 IsMade base m limit (And f g) t = IsShaped base (length (free_places (And f g) m)) t × ((u : Table) × ((v : Table) × ((IsMade base m limit f u × IsMade base m limit g v) × IsOfPairs Both u v (shared (And f g) f g m) limit t)))
 IsMade base m limit (Or f g) t = IsShaped base (length (free_places (Or f g) m)) t × ((u : Table) × ((v : Table) × ((IsMade base m limit f u × IsMade base m limit g v) × IsOfPairs Either u v (shared (Or f g) f g m) limit t)))
@@ -64,8 +63,7 @@ HasHeavyPairs base m limit f g tracks = (u : Table) × ((v : Table) × ((IsMade 
 
 -- a step of a formula over m variables passes the limit, and all steps before it are within
 abbrev pub IsFirstHeavy : ℕ → ℕ → ℕ → Formula → Type 0
-IsFirstHeavy base m limit (Le a) = IsHeavyAtom AtMost (own a) base (length (free_places (Le a) m)) limit
-IsFirstHeavy base m limit (Eq a) = IsHeavyAtom Equal (own a) base (length (free_places (Eq a) m)) limit
+IsFirstHeavy base m limit (Atom kind a) = IsHeavyAtom kind (own a) base (length (free_places (Atom kind a) m)) limit
 IsFirstHeavy base m limit (Not f) = IsFirstHeavy base m limit f
 IsFirstHeavy base m limit (And f g) = IsFirstHeavy base m limit f ⊎ ((((u : Table) × IsMade base m limit f u) × IsFirstHeavy base m limit g) ⊎ HasHeavyPairs base m limit f g (shared (And f g) f g m))
 IsFirstHeavy base m limit (Or f g) = IsFirstHeavy base m limit f ⊎ ((((u : Table) × IsMade base m limit f u) × IsFirstHeavy base m limit g) ⊎ HasHeavyPairs base m limit f g (shared (Or f g) f g m))
@@ -73,7 +71,7 @@ IsFirstHeavy base m limit (Exists s f) = IsFirstHeavy base (m + 1) limit f ⊎ (
 
 -- what is true of all vectors
 abbrev pub always : Formula
-always = Le (record { terms = []; constant = pos 0 })
+always = Atom AtMost (record { terms = []; constant = pos 0 })
 
 -- the table of a formula on the tracks of its free variables, and one without tracks, on all m tracks
 abbrev pub all_tracks : Formula → ℕ → TrackLists

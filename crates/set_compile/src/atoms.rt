@@ -1,7 +1,7 @@
 //! The step of an atom: its table over its own variables, made canonical.
 
 ghost use Rattle.std.specs.Prelude.{◌≡◌, ◌<◌, ◌≤◌, ◌^◌, [], ◌∷◌, ◌++◌, All, pos, length, unsigned_abs, IfOk, IfErr, OnOk};
-ghost use Rattle.lash_model.specs.Formulas.{IsInside, IsLinear, atom as atom_of};
+ghost use Rattle.lash_model.specs.Formulas.{IsInside, IsLinear, Atom};
 ghost use Rattle.lash_model.specs.Meaning.{holds};
 ghost use Rattle.lash_model.specs.Standing.{StandsForWhole};
 ghost use Rattle.threshold_laws.specs.Thresholds.{IsHeavyAtom};
@@ -63,7 +63,7 @@ pub fn atom_part(
     ensures linear { IsLinear term.now }
     ensures shape { IfOk result (λ c. IsShaped base (length term.now.terms) c.table) }
     ensures made { IfOk result (λ c. IsOfAtom (comparison_of kind) (own term.now) base (length term.now.terms) limit c.table) }
-    ensures stands { IfOk result (λ c. StandsForWhole c.table (holds (atom_of (comparison_of kind) (own term.now)))) }
+    ensures stands { IfOk result (λ c. StandsForWhole c.table (holds (Atom (comparison_of kind) (own term.now)))) }
     ensures heavy { IfErr result (λ e. e ≡ CompileError.Heavy → IsHeavyAtom (comparison_of kind) (own term.now) base (length term.now.terms) limit) }
 {
     let _radix = base.radix();

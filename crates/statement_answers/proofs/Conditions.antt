@@ -2,22 +2,20 @@
 use Rattle.std.proofs.Common.{◌≡◌, ℕ, ◌+◌, Bool, true, false, ◌&&◌, Option, None, Some, cond, refl, sym, ap}
 use Rattle.std.specs.Prelude.{is_some}
 use Rattle.std.proofs.lemmas.Bool.{true≢false}
-use Rattle.lash_model.specs.Formulas.{Sort, Int, Real, Formula, Le, Eq, Not, And, Or, Exists}
+use Rattle.lash_model.specs.Formulas.{Sort, Int, Real, Formula, Atom, Not, And, Or, Exists}
 use Rattle.formula_core.specs.Counts.{binds_ints, is_int}
 use Rattle.term_substitution.specs.Conditions.{IsOver as IsSubstitutedOver}
 use Rattle.set_compile.specs.Conditions.{IsOver, BindsIntegers}
 
 pub compiled_over : (m : ℕ) (f : Formula) → IsSubstitutedOver m f → IsOver m f
-compiled_over m (Le a) h = record { places = h.places; inside = h.inside }
-compiled_over m (Eq a) h = record { places = h.places; inside = h.inside }
+compiled_over m (Atom kind a) h = record { places = h.places; inside = h.inside }
 compiled_over m (Not f) h = compiled_over m f h
 compiled_over m (And f g) h = (compiled_over m f h.0, compiled_over m g h.1)
 compiled_over m (Or f g) h = (compiled_over m f h.0, compiled_over m g h.1)
 compiled_over m (Exists s f) h = compiled_over (m + 1) f h
 
 pub substituted_over : (m : ℕ) (f : Formula) → IsOver m f → IsSubstitutedOver m f
-substituted_over m (Le a) h = record { places = h.places; inside = h.inside }
-substituted_over m (Eq a) h = record { places = h.places; inside = h.inside }
+substituted_over m (Atom kind a) h = record { places = h.places; inside = h.inside }
 substituted_over m (Not f) h = substituted_over m f h
 substituted_over m (And f g) h = (substituted_over m f h.0, substituted_over m g h.1)
 substituted_over m (Or f g) h = (substituted_over m f h.0, substituted_over m g h.1)
@@ -36,8 +34,7 @@ an_int Int e = refl
 an_int Real e = absurd (true≢false (sym e))
 
 pub binds_integers : (f : Formula) → binds_ints f ≡ true → BindsIntegers f
-binds_integers (Le a) e = tt
-binds_integers (Eq a) e = tt
+binds_integers (Atom kind a) e = tt
 binds_integers (Not f) e = binds_integers f e
 binds_integers (And f g) e = (binds_integers f (first_true (binds_ints f) (binds_ints g) e), binds_integers g (second_true (binds_ints f) (binds_ints g) e))
 binds_integers (Or f g) e = (binds_integers f (first_true (binds_ints f) (binds_ints g) e), binds_integers g (second_true (binds_ints f) (binds_ints g) e))

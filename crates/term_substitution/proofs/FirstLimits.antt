@@ -2,7 +2,7 @@
 use Rattle.std.proofs.Common.{◌≡◌, ℕ, ◌+◌, ◌≤◌, List, length, max, arith, refl, sym, ap, ap₂, ◌∙◌, cond, Bool, true, false, None, Some}
 use Rattle.std.specs.List.{All}
 use Rattle.std.proofs.lemmas.Bool.{le-ltb}
-use Rattle.lash_model.specs.Formulas.{Linear, Formula, Le, Eq, Not, And, Or, Exists}
+use Rattle.lash_model.specs.Formulas.{Linear, Formula, Atom, Not, And, Or, Exists}
 use Rattle.formula_core.specs.Counts.{nodes_of, depth_of}
 use Rattle.term_substitution.specs.Conditions.{IsOver, IsSubstitute}
 use Rattle.term_substitution.specs.Limits.{nodes_limit, depth_limit, first_passed, IsRefused}
@@ -15,16 +15,14 @@ use Rattle.term_substitution.proofs.Reaching.{result_over}
 
 -- substitution keeps the nodes and the depth
 pub same_nodes : (f : Formula) (terms : List Linear) (places : ℕ) → nodes_of (substituted f terms places) ≡ nodes_of f
-same_nodes (Le a) terms places = refl
-same_nodes (Eq a) terms places = refl
+same_nodes (Atom kind a) terms places = refl
 same_nodes (Not f) terms places = ap (λ n. n + 1) (same_nodes f terms places)
 same_nodes (And f g) terms places = ap₂ (λ n m. n + m + 1) (same_nodes f terms places) (same_nodes g terms places)
 same_nodes (Or f g) terms places = ap₂ (λ n m. n + m + 1) (same_nodes f terms places) (same_nodes g terms places)
 same_nodes (Exists s f) terms places = ap (λ n. n + 1) (same_nodes f terms places)
 
 pub same_depth : (f : Formula) (terms : List Linear) (places : ℕ) → depth_of (substituted f terms places) ≡ depth_of f
-same_depth (Le a) terms places = refl
-same_depth (Eq a) terms places = refl
+same_depth (Atom kind a) terms places = refl
 same_depth (Not f) terms places = ap (λ n. n + 1) (same_depth f terms places)
 same_depth (And f g) terms places = ap₂ (λ n m. max n m + 1) (same_depth f terms places) (same_depth g terms places)
 same_depth (Or f g) terms places = ap₂ (λ n m. max n m + 1) (same_depth f terms places) (same_depth g terms places)

@@ -5,7 +5,7 @@ use Rattle.std.specs.List.{AllByRecursion, All}
 use Rattle.std.specs.Ordering.{int_eq}
 use Rattle.std.proofs.lemmas.Bool.{cond_both, ltb-true, ltb-false, true≢false}
 use Rattle.std.proofs.lemmas.List.Elements.{All-from_recursion, recursion_from_All}
-use Rattle.lash_model.specs.Formulas.{Linear, Formula, Le, Eq, Not, And, Or, Exists}
+use Rattle.lash_model.specs.Formulas.{Linear, Formula, Atom, Not, And, Or, Exists}
 use Rattle.formula_core.specs.Counts.{depth_of}
 use Rattle.formula_core.specs.Terms.{in_front, added}
 use Rattle.term_substitution.specs.Conditions.{IsTermOver, IsOver, HasTermsOver, IsSubstitute}
@@ -23,8 +23,7 @@ max_right m n k h = omega (arith, h)
 
 -- bound variables reach no farther than the depth
 reached : (f : Formula) (m k : ℕ) → m + depth_of f ≤ k + 1 → IsOver m f → HasTermsOver k f
-reached (Le a) m k h over = term_wider m k a (omega (arith, h)) over
-reached (Eq a) m k h over = term_wider m k a (omega (arith, h)) over
+reached (Atom kind a) m k h over = term_wider m k a (omega (arith, h)) over
 reached (Not f) m k h over = reached f m k (omega (arith, h)) over
 reached (And f g) m k h over = (reached f m k (omega (arith, h)) over.0, reached g m k (omega (arith, h)) over.1)
 reached (Or f g) m k h over = (reached f m k (omega (arith, h)) over.0, reached g m k (omega (arith, h)) over.1)
@@ -90,8 +89,7 @@ right_false true y e = absurd (true≢false e)
 right_false false y e = e
 
 over : (f : Formula) (terms : List Linear) (places m k : ℕ) → IsMoved terms places m k → IsOver m f → some_atom coefficients_pass (substituted f terms places) ≡ false → some_atom constant_passes (substituted f terms places) ≡ false → IsOver k (substituted f terms places)
-over (Le a) terms places m k h o few small = atom_over terms places m k a h o few small
-over (Eq a) terms places m k h o few small = atom_over terms places m k a h o few small
+over (Atom kind a) terms places m k h o few small = atom_over terms places m k a h o few small
 over (Not f) terms places m k h o few small = over f terms places m k h o few small
 over (And f g) terms places m k h o few small = (over f terms places m k h o.0 (left_false _ _ few) (left_false _ _ small), over g terms places m k h o.1 (right_false _ _ few) (right_false _ _ small))
 over (Or f g) terms places m k h o few small = (over f terms places m k h o.0 (left_false _ _ few) (left_false _ _ small), over g terms places m k h o.1 (right_false _ _ few) (right_false _ _ small))

@@ -2,15 +2,15 @@
 use Rattle.std.proofs.Common.{◌≡◌, ℕ, suc, ◌+◌, ◌-◌, ◌*◌, ◌<◌, List, [], ◌∷◌, ◌++◌, length, map, get_or, arith, refl, sym, ap, ◌∙◌, subst, nat_lt, inl, inr}
 use Rattle.std.proofs.Math.IntN.{ℤ, pos, ◌+ℤ◌, ◌-ℤ◌, ◌*ℤ◌}
 use Rattle.std.specs.List.{All}
-use Rattle.std.specs.Prelude.{◌≤ℤ◌, ◌↔◌}
+use Rattle.std.specs.Prelude.{◌↔◌}
 use Rattle.std.proofs.lemmas.Bool.{cond_both, ltb-true, ltb-false}
 use Rattle.std.proofs.lemmas.Int.{ints}
 use Rattle.std.proofs.lemmas.List.{get_or_append_left, get_or-append-add, get_or-append_right, get_or-map, length-map}
 use Rattle.integer_laws.specs.Differences.{diff}
 use Rattle.integer_laws.specs.Vectors.{scale}
 use Rattle.integer_laws.proofs.Ring.{by_diff, diff_same, diff_sub, diff_mul, pos_diff, times_comm, times_assoc, times_sum, times_one, times_zero, sum_times}
-use Rattle.lash_model.specs.Formulas.{Int, Real, Linear, Formula, Le, Eq, Not, And, Or, Exists}
-use Rattle.lash_model.specs.Meaning.{total, holds}
+use Rattle.lash_model.specs.Formulas.{Int, Real, Linear, Formula, Comparison, AtMost, Equal, Atom, Not, And, Or, Exists}
+use Rattle.lash_model.specs.Meaning.{total, compares, holds}
 use Rattle.lash_model.proofs.Totals.{total-scale}
 use Rattle.formula_core.specs.Terms.{added}
 use Rattle.formula_core.proofs.Adding.{total_added}
@@ -54,11 +54,9 @@ none ns = refl
 moved : (terms : List Linear) (places : ℕ) (vs ws : List ℤ) (d : ℕ) (a : Linear) → Fills terms places vs ws d → total (substituted_term terms places a).terms vs +ℤ (a.constant *ℤ pos d) ≡ ((substituted_term terms places a).constant *ℤ pos d) +ℤ total a.terms ws
 moved terms places vs ws d a h = omega (arith, ints, total_images terms places vs ws d [] a.terms h, none vs, sub_times a.constant (constants_of terms places a.terms) (pos d))
 
-at_most : (t c x y : ℤ) → t +ℤ y ≡ c +ℤ x → (t ≤ℤ c) ↔ (x ≤ℤ y)
-at_most t c x y e = (λ h. omega (arith, ints, e, h), λ h. omega (arith, ints, e, h))
-
-equal : (t c x y : ℤ) → t +ℤ y ≡ c +ℤ x → (t ≡ c) ↔ (x ≡ y)
-equal t c x y e = (λ h. omega (arith, ints, e, h), λ h. omega (arith, ints, e, h))
+same_comparison : (kind : Comparison) (t c x y : ℤ) → t +ℤ y ≡ c +ℤ x → compares kind t c ↔ compares kind x y
+same_comparison AtMost t c x y e = (λ h. omega (arith, ints, e, h), λ h. omega (arith, ints, e, h))
+same_comparison Equal t c x y e = (λ h. omega (arith, ints, e, h), λ h. omega (arith, ints, e, h))
 
 -- each term is over so many variables
 abbrev AreOver : ℕ → List Linear → Type 0
@@ -120,8 +118,7 @@ through f g vs us ws xs d e k h = (λ y. subst (λ v. holds f v d) (sym k) (h.0 
 -- with further entries behind the vector, which the bound variables name
 means : (f : Formula) (terms : List Linear) (places : ℕ) (ns zs : List ℤ) (d : ℕ) → length ns ≡ places → AreOver places terms → holds (substituted f terms places) (ns ++ zs) d ↔ holds f (map (term_value ns d) terms ++ zs) d
 unfolding holds
-means (Le a) terms places ns zs d count over = at_most _ _ _ _ (moved terms places (ns ++ zs) (map (term_value ns d) terms ++ zs) d a (fills terms places ns zs d count over))
-means (Eq a) terms places ns zs d count over = equal _ _ _ _ (moved terms places (ns ++ zs) (map (term_value ns d) terms ++ zs) d a (fills terms places ns zs d count over))
+means (Atom kind a) terms places ns zs d count over = same_comparison kind _ _ _ _ (moved terms places (ns ++ zs) (map (term_value ns d) terms ++ zs) d a (fills terms places ns zs d count over))
 means (Not f) terms places ns zs d count over = let rec = means f terms places ns zs d count over in (λ h k. h (rec.1 k), λ h k. h (rec.0 k))
 means (And f g) terms places ns zs d count over = let one = means f terms places ns zs d count over in let other = means g terms places ns zs d count over in (λ h. (one.0 h.0, other.0 h.1), λ h. (one.1 h.0, other.1 h.1))
 means (Or f g) terms places ns zs d count over = let one = means f terms places ns zs d count over in let other = means g terms places ns zs d count over in (λ h. elim h [ inl x ↦ inl (one.0 x) | inr y ↦ inr (other.0 y) ], λ h. elim h [ inl x ↦ inl (one.1 x) | inr y ↦ inr (other.1 y) ])

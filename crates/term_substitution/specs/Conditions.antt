@@ -1,6 +1,6 @@
 -- The formulas and the terms that are substituted (own).
 use Rattle.std.specs.Prelude.{ℕ, ◌+◌, ◌^◌, ◌<◌, ◌≤◌, All, unsigned_abs}
-use Rattle.lash_model.specs.Formulas.{Linear, IsInside, Formula, Le, Eq, Not, And, Or, Exists}
+use Rattle.lash_model.specs.Formulas.{Linear, IsInside, Formula, Atom, Not, And, Or, Exists}
 
 -- a term over m variables, inside the limits of coefficients and constants
 pub record IsTermOver (m : ℕ) (a : Linear) : Type 0 where
@@ -9,8 +9,7 @@ pub record IsTermOver (m : ℕ) (a : Linear) : Type 0 where
 
 -- each term is over m variables, and of a body over one more
 abbrev pub IsOver : ℕ → Formula → Type 0
-IsOver m (Le a) = IsTermOver m a
-IsOver m (Eq a) = IsTermOver m a
+IsOver m (Atom kind a) = IsTermOver m a
 IsOver m (Not f) = IsOver m f
 IsOver m (And f g) = IsOver m f × IsOver m g
 IsOver m (Or f g) = IsOver m f × IsOver m g
@@ -18,8 +17,7 @@ IsOver m (Exists s f) = IsOver (m + 1) f
 
 -- each term of the formula, of its bodies too, is over m variables
 abbrev pub HasTermsOver : ℕ → Formula → Type 0
-HasTermsOver m (Le a) = IsTermOver m a
-HasTermsOver m (Eq a) = IsTermOver m a
+HasTermsOver m (Atom kind a) = IsTermOver m a
 HasTermsOver m (Not f) = HasTermsOver m f
 HasTermsOver m (And f g) = HasTermsOver m f × HasTermsOver m g
 HasTermsOver m (Or f g) = HasTermsOver m f × HasTermsOver m g

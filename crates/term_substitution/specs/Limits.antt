@@ -1,6 +1,6 @@
 -- The limits of a formula, in the order in which they are judged (own).
 use Rattle.std.specs.Prelude.{◌≡◌, ℕ, ◌^◌, Bool, ◌||◌, nat_lt, unsigned_abs, Option, None, Some, if◌then◌else◌}
-use Rattle.lash_model.specs.Formulas.{Linear, coefficient_sum, Formula, Le, Eq, Not, And, Or, Exists}
+use Rattle.lash_model.specs.Formulas.{Linear, coefficient_sum, Formula, Atom, Not, And, Or, Exists}
 use Rattle.formula_core.specs.Counts.{nodes_of, depth_of}
 use Rattle.term_substitution.specs.declared.errors.FormError.{FormError}
 use Rattle.term_substitution.specs.declared.errors.FormError.TheVariants.{Nodes, Depth, Coefficient, Constant, Memory}
@@ -21,8 +21,7 @@ constant_passes a = nat_lt (2 ^ 40) (unsigned_abs a.constant)
 
 -- some atom of the formula passes the test
 abbrev pub some_atom : (Linear → Bool) → Formula → Bool
-some_atom test (Le a) = test a
-some_atom test (Eq a) = test a
+some_atom test (Atom kind a) = test a
 some_atom test (Not f) = some_atom test f
 some_atom test (And f g) = some_atom test f || some_atom test g
 some_atom test (Or f g) = some_atom test f || some_atom test g

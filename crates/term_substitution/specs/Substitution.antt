@@ -1,7 +1,7 @@
 -- Terms put for the free variables of a formula (the usual substitution of linear terms). The variable at a place becomes the term at that
 -- place; a variable that is bound stays one, and moves behind the variables of the result.
 use Rattle.std.specs.Prelude.{ℕ, ◌+◌, ◌-◌, nat_lt, List, [], ◌∷◌, length, slice_index_or, ℤ, pos, ◌+ℤ◌, ◌-ℤ◌, ◌*ℤ◌, if◌then◌else◌}
-use Rattle.lash_model.specs.Formulas.{Linear, Formula, Le, Eq, Not, And, Or, Exists}
+use Rattle.lash_model.specs.Formulas.{Linear, Formula, Atom, Not, And, Or, Exists}
 use Rattle.formula_core.specs.Terms.{added}
 
 abbrev pub zero_term : Linear
@@ -35,8 +35,7 @@ substituted_term terms places a = record { terms = with_images terms places [] a
 
 -- the formula with the terms put for its free variables, over so many variables
 abbrev pub substituted : Formula → List Linear → ℕ → Formula
-substituted (Le a) terms places = Le (substituted_term terms places a)
-substituted (Eq a) terms places = Eq (substituted_term terms places a)
+substituted (Atom kind a) terms places = Atom kind (substituted_term terms places a)
 substituted (Not f) terms places = Not (substituted f terms places)
 substituted (And f g) terms places = And (substituted f terms places) (substituted g terms places)
 substituted (Or f g) terms places = Or (substituted f terms places) (substituted g terms places)

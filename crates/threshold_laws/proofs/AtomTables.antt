@@ -9,7 +9,7 @@ use mathlib.Core.Logic.{inl, inr}
 use Rattle.integer_laws.specs.Runs.{run}
 use Rattle.integer_laws.proofs.Ring.{times_one}
 use Rattle.graph_laws.specs.Walks.{go}
-use Rattle.lash_model.specs.Formulas.{Linear, Comparison, AtMost, Equal, atom}
+use Rattle.lash_model.specs.Formulas.{Linear, Comparison, AtMost, Equal, Atom}
 use Rattle.lash_model.specs.Words.{values}
 use Rattle.lash_model.specs.Meaning.{total, holds}
 use Rattle.lash_model.specs.Tables.{Table, letters}
@@ -134,7 +134,7 @@ both_true false q h = (h, absurd (no_way h))
     no_way h = cc
 
 -- the comparison is the atom's meaning over the denominator 1
-passing_means : (kind : Comparison) (a : Linear) (ns : List ℤ) → IsTrue (passes kind (total a.terms ns) a.constant) ↔ holds (atom kind a) ns 1
+passing_means : (kind : Comparison) (a : Linear) (ns : List ℤ) → IsTrue (passes kind (total a.terms ns) a.constant) ↔ holds (Atom kind a) ns 1
 unfolding holds
 passing_means AtMost a ns = (λ h. rw (times_one a.constant) (le_from_true (total a.terms ns) a.constant h), λ h. le_true (total a.terms ns) a.constant (rw (times_one a.constant) at h))
 passing_means Equal a ns = (λ h. both_ways (both_true (int_le (total a.terms ns) a.constant) (int_le a.constant (total a.terms ns)) h) ∙ sym (times_one a.constant), λ h. passed (h ∙ times_one a.constant))
@@ -158,7 +158,7 @@ accepts_by kind a r n ts t h c e sign w s letters =
     ∙ same_passing kind ts a.constant (representative ts (below ts x)) x (given_threshold r (r ^ n) (letter_total a.terms r n) (seeds kind a.constant) ts e) (below-representative ts (below ts x) e.rising some (few ts x))
 
 -- a table that counts the thresholds of an atom stands for it
-pub counting_stands : (kind : Comparison) (a : Linear) (r n : ℕ) (ts : List ℤ) (t : Table) → 0 < r → CountsThresholds kind a r n ts t → AreThresholds r (r ^ n) (letter_total a.terms r n) (seeds kind a.constant) ts → StandsForWhole t (holds (atom kind a))
+pub counting_stands : (kind : Comparison) (a : Linear) (r n : ℕ) (ts : List ℤ) (t : Table) → 0 < r → CountsThresholds kind a r n ts t → AreThresholds r (r ^ n) (letter_total a.terms r n) (seeds kind a.constant) ts → StandsForWhole t (holds (Atom kind a))
 counting_stands kind a r n ts t h c e = record {
   diagram = c.diagram;
   each = λ sign w s ls. each sign w (subst (λ k. sign < 2 ^ k) c.steps.tracks s) (recursion_from_All (λ l. l < r ^ n) w (subst (λ k. All (λ l. l < k) w) (ap (λ b. b ^ t.tracks) c.steps.base ∙ ap (λ k. r ^ k) c.steps.tracks) ls));
@@ -167,7 +167,7 @@ counting_stands kind a r n ts t h c e = record {
     shape : t.base ^ t.tracks ≡ r ^ n
     shape = ap (λ b. b ^ t.tracks) c.steps.base ∙ ap (λ k. r ^ k) c.steps.tracks
 
-    each : (sign : ℕ) (w : List ℕ) → sign < 2 ^ n → AllByRecursion (λ l. l < r ^ n) w → IsTrue (accepts_word t sign w) ↔ holds (atom kind a) (values t.base t.tracks sign w) 1
-    each sign w s ls = iff_same (accepts_word t sign w) (passes kind (total a.terms (values t.base t.tracks sign w)) a.constant) (holds (atom kind a) (values t.base t.tracks sign w) 1)
+    each : (sign : ℕ) (w : List ℕ) → sign < 2 ^ n → AllByRecursion (λ l. l < r ^ n) w → IsTrue (accepts_word t sign w) ↔ holds (Atom kind a) (values t.base t.tracks sign w) 1
+    each sign w s ls = iff_same (accepts_word t sign w) (passes kind (total a.terms (values t.base t.tracks sign w)) a.constant) (holds (Atom kind a) (values t.base t.tracks sign w) 1)
         (ap (λ k. nat_eq (slice_index t.outs (go t.rows k (slice_index t.roots sign) w)) 1) shape ∙ accepts_by kind a r n ts t h c e sign w s ls ∙ ap (λ v. passes kind (total a.terms v) a.constant) (sym (ap (λ b. values b t.tracks sign w) c.steps.base ∙ ap (λ k. values r k sign w) c.steps.tracks)))
         (passing_means kind a (values t.base t.tracks sign w))

@@ -3,7 +3,7 @@
 
 ghost use Rattle.std.specs.Prelude.{◌≡◌, ℕ, ◌^◌, ◌<◌, List, map, ℤ, neg_ℤ};
 ghost use Rattle.integer_laws.specs.Runs.{run};
-ghost use Rattle.lash_model.specs.Formulas.{Linear, Comparison, atom};
+ghost use Rattle.lash_model.specs.Formulas.{Linear, Comparison, Atom};
 ghost use Rattle.lash_model.specs.Words.{values};
 ghost use Rattle.lash_model.specs.Meaning.{total, holds};
 ghost use Rattle.lash_model.specs.Tables.{Table};
@@ -17,5 +17,5 @@ pub fn totals_are_runs()
 
 /// A table whose states count the thresholds of an atom stands for the atom.
 pub fn counting_tables_stand()
-    ensures { (kind : Comparison) (a : Linear) (r n : ℕ) (ts : List ℤ) (t : Table) → 0 < r → CountsThresholds kind a r n ts t → AreThresholds r (r ^ n) (letter_total a.terms r n) (seeds kind a.constant) ts → StandsForWhole t (holds (atom kind a)) }
+    ensures { (kind : Comparison) (a : Linear) (r n : ℕ) (ts : List ℤ) (t : Table) → 0 < r → CountsThresholds kind a r n ts t → AreThresholds r (r ^ n) (letter_total a.terms r n) (seeds kind a.constant) ts → StandsForWhole t (holds (Atom kind a)) }
 {}

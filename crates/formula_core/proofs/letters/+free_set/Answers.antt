@@ -1,12 +1,13 @@
 -- Each node is judged by the places of its parts.
 use Rattle.std.proofs.Common.{inl, inr, ℕ, ◌+◌, None, Some, List, arith, false, ◌||◌, nat_eq, sym, subst}
 use Rattle.std.specs.Set.{is_member}
+use Rattle.lash_model.specs.Formulas.{AtMost, Equal}
 use Rattle.formula_core.specs.Counts.{uses, term_uses}
 use Rattle.formula_core.specs.Shape.{formula_of}
 use Rattle.formula_core.specs.Variables.{sort_of}
 use Rattle.formula_core.specs.PlaceSets.{IsSetOf, Gathers, Finds}
 use Rattle.formula_core.proofs.Gathering.{no_places}
-use Rattle.formula_core.proofs.Walking.{found_le, found_eq, found_not, lost_body, found_exists, lost_left, lost_right, found_both}
+use Rattle.formula_core.proofs.Walking.{found_atom, found_not, lost_body, found_exists, lost_left, lost_right, found_both}
 use Rattle.formula_core.proofs.letters.+free_set.Goals as goal
 
 pub returns-in-Not : goal.returns-in-Not
@@ -72,6 +73,6 @@ returns-in-Le t c n e =
     let result = c.judged-in-Le.result in
     let judged = c.judged-in-Le.ensures (λ k. term_uses k c.in-Le.term) n (c.term_set.ensures n e) in
     elim c.in-Le.is [
-      | inl q ↦ subst (λ f. Finds r (formula_of f) n result) (sym q) (found_le r c.in-Le.term n result judged)
-      | inr q ↦ subst (λ f. Finds r (formula_of f) n result) (sym q) (found_eq r c.in-Le.term n result judged)
+      | inl q ↦ subst (λ f. Finds r (formula_of f) n result) (sym q) (found_atom r AtMost c.in-Le.term n result judged)
+      | inr q ↦ subst (λ f. Finds r (formula_of f) n result) (sym q) (found_atom r Equal c.in-Le.term n result judged)
     ]

@@ -2,7 +2,7 @@ use Rattle.std.proofs.Common.{◌<◌, ℕ, length, sym, ap, subst, arith}
 use Rattle.std.proofs.Math.IntN.{ℤ}
 use Rattle.std.specs.Prelude.{All}
 use Rattle.std.proofs.lemmas.List.Elements.{All-from_recursion}
-use Rattle.lash_model.specs.Formulas.{Linear, IsInside, atom}
+use Rattle.lash_model.specs.Formulas.{Linear, IsInside, Atom}
 use Rattle.lash_model.specs.Meaning.{holds}
 use Rattle.lash_model.specs.Standing.{StandsForWhole}
 use Rattle.canonical_laws.proofs.Carrying.{stands_carried}
@@ -27,4 +27,4 @@ pub atom_int-requires-clause-inside : goal.atom_int-requires-clause-inside
 atom_int-requires-clause-inside c = subst IsInside (sym c.in-Ok.ensures.own) (own_inside c.args.term.now c.requires.inside)
 
 pub returns-in-Ok-canonical-clause-stands : goal.returns-in-Ok-canonical-clause-stands
-returns-in-Ok-canonical-clause-stands c = stands_carried c.in-Ok-atom_int.table.table c.in-Ok-canonical.made.table (holds (atom (comparison_of c.args.kind) (own c.args.term.now))) (sym c.in-Ok-canonical.ensures.base) (sym c.in-Ok-canonical.ensures.tracks) c.in-Ok-canonical.ensures.canonical.diagram c.in-Ok-canonical.ensures.words (subst (λ (a : Linear). StandsForWhole c.in-Ok-atom_int.table.table (holds (atom (comparison_of c.args.kind) a))) c.in-Ok.ensures.own c.in-Ok-atom_int.ensures.stands)
+returns-in-Ok-canonical-clause-stands c = stands_carried c.in-Ok-atom_int.table.table c.in-Ok-canonical.made.table (holds (Atom (comparison_of c.args.kind) (own c.args.term.now))) (sym c.in-Ok-canonical.ensures.base) (sym c.in-Ok-canonical.ensures.tracks) c.in-Ok-canonical.ensures.canonical.diagram c.in-Ok-canonical.ensures.words (subst (λ (a : Linear). StandsForWhole c.in-Ok-atom_int.table.table (holds (Atom (comparison_of c.args.kind) a))) c.in-Ok.ensures.own c.in-Ok-atom_int.ensures.stands)

@@ -3,10 +3,8 @@ use Rattle.std.proofs.Common.{◌≡◌, ℤ, List, length, sym, ap, ap₂, ◌�
 use Rattle.std.specs.Prelude.{IfOk}
 use Rattle.std.proofs.lemmas.Result.{IfOk-weaker}
 use Rattle.lash_model.specs.Formulas as model
-use Rattle.lash_model.specs.Meaning.{holds}
 use Rattle.lash_model.specs.Standing.{StandsForWhole}
 use Rattle.lash_model.specs.Formulas.{AtMost, Equal}
-use Rattle.threshold_laws.specs.Thresholds.{IsHeavyAtom}
 use Rattle.step_tables.specs.Kept.{Kept}
 use Rattle.formula_core.specs.Counts.{free_places}
 use Rattle.formula_core.specs.Shape.{formula_of}
@@ -14,15 +12,12 @@ use Rattle.formula_core.specs.Variables.{sort_of}
 use Rattle.product_ops.specs.Negation.{AcceptsOthers}
 use Rattle.product_ops.specs.Operations.{joined, set_of}
 use Rattle.product_ops.specs.declared.operation.Op.TheVariants.{And as Both, Or as Either}
-use Rattle.set_compile.specs.Conditions.{IsOver, IsTermOver, BindsIntegers, IsNarrow}
+use Rattle.set_compile.specs.Conditions.{IsOver, BindsIntegers, IsNarrow}
 use Rattle.set_compile.specs.Positions.{shared, spread}
-use Rattle.set_compile.specs.Steps.{own, IsShaped, IsOfAtom, IsOfPairs, IsMade, IsFirstHeavy}
-use Rattle.set_compile.specs.declared.errors.CompileError.{CompileError}
-use Rattle.set_compile.specs.declared.errors.CompileError.TheVariants.{Heavy}
+use Rattle.set_compile.specs.Steps.{IsShaped, IsOfPairs, IsMade}
 use Rattle.set_compile.proofs.Making.{shape_of}
 use Rattle.set_compile.proofs.Spreading.{not_stands, and_stands, or_stands}
-use Rattle.set_compile.proofs.OwnTerms.{free_count, le_stands, eq_stands}
-use Rattle.set_compile.proofs.NodeSteps.{both_ok, err_weaker, le_letters, le_made, eq_made, le_heavy, eq_heavy, not_made, and_made, or_made}
+use Rattle.set_compile.proofs.NodeSteps.{both_ok, atom_letters, atom_shape, atom_made, atom_stands, atom_heavy, not_made, and_made, or_made}
 use Rattle.set_compile.proofs.nodes.+part.Goals as goal
 
 -- ---- conjunctions
@@ -87,87 +82,35 @@ disjunction-returns-clause-stands t c =
 
 -- ---- Le
 pub part-atom_part-requires-clause-letters : goal.part-atom_part-requires-clause-letters
-part-atom_part-requires-clause-letters t c = le_letters c.args.base c.args.places c.in-Le.term (subst (λ f. IsNarrow c.args.base c.args.places (formula_of f)) c.in-Le.is c.requires.letters) (subst (λ f. IsOver c.args.places (formula_of f)) c.in-Le.is c.requires.over)
+part-atom_part-requires-clause-letters t c = atom_letters AtMost c.args.base c.args.places c.in-Le.term (subst (λ f. IsNarrow c.args.base c.args.places (formula_of f)) c.in-Le.is c.requires.letters) (subst (λ f. IsOver c.args.places (formula_of f)) c.in-Le.is c.requires.over)
 
 pub part-returns-in-Le-clause-shape : goal.part-returns-in-Le-clause-shape
-part-returns-in-Le-clause-shape t c =
-    let a = c.in-Le.term in
-    let over : IsTermOver c.args.places a = subst (λ f. IsOver c.args.places (formula_of f)) c.in-Le.is c.requires.over in
-    let P : Kept → Type 0 = λ k. IsShaped c.args.base (length a.terms) k.table in
-    let R : Kept → Type 0 = λ k. IsShaped c.args.base (length (free_places (formula_of c.args.formula.now) c.args.places)) k.table in
-    IfOk-weaker c.atom_part.result P R (λ k shape.
-    subst (λ f. IsShaped c.args.base (length (free_places (formula_of f) c.args.places)) k.table) (sym c.in-Le.is)
-    (subst (λ n. IsShaped c.args.base n k.table) (sym (free_count a c.args.places c.atom_part.ensures.linear over.places)) shape)) c.atom_part.ensures.shape
+part-returns-in-Le-clause-shape t c = atom_shape AtMost c.args.base c.args.places c.in-Le.term (formula_of c.args.formula.now) (ap formula_of c.in-Le.is) c.atom_part.ensures.linear c.requires.over c.atom_part.result c.atom_part.ensures.shape
 
 pub part-returns-in-Le-clause-made : goal.part-returns-in-Le-clause-made
-part-returns-in-Le-clause-made t c =
-    let a = c.in-Le.term in
-    let over : IsTermOver c.args.places a = subst (λ f. IsOver c.args.places (formula_of f)) c.in-Le.is c.requires.over in
-    let P : Kept → Type 0 = λ k. IsShaped c.args.base (length a.terms) k.table in
-    let Q : Kept → Type 0 = λ k. IsOfAtom AtMost (own a) c.args.base (length a.terms) c.args.limit k.table in
-    let R : Kept → Type 0 = λ k. IsMade c.args.base c.args.places c.args.limit (formula_of c.args.formula.now) k.table in
-    both_ok c.atom_part.result P Q R (λ k shape made.
-    subst (λ f. IsMade c.args.base c.args.places c.args.limit (formula_of f) k.table) (sym c.in-Le.is) (le_made c.args.base c.args.places c.args.limit a k.table c.atom_part.ensures.linear over shape made)) c.atom_part.ensures.shape c.atom_part.ensures.made
+part-returns-in-Le-clause-made t c = atom_made AtMost c.args.base c.args.places c.args.limit c.in-Le.term (formula_of c.args.formula.now) (ap formula_of c.in-Le.is) c.atom_part.ensures.linear c.requires.over c.atom_part.result c.atom_part.ensures.shape c.atom_part.ensures.made
 
 pub part-returns-in-Le-clause-stands : goal.part-returns-in-Le-clause-stands
-part-returns-in-Le-clause-stands t c =
-    let a = c.in-Le.term in
-    let over : IsTermOver c.args.places a = subst (λ f. IsOver c.args.places (formula_of f)) c.in-Le.is c.requires.over in
-    let P : Kept → Type 0 = λ k. StandsForWhole k.table (holds (model.Le (own a))) in
-    let R : Kept → Type 0 = λ k. StandsForWhole k.table (set_of (formula_of c.args.formula.now) (spread c.args.places (free_places (formula_of c.args.formula.now) c.args.places))) in
-    IfOk-weaker c.atom_part.result P R (λ k s.
-    subst (λ f. StandsForWhole k.table (set_of (formula_of f) (spread c.args.places (free_places (formula_of f) c.args.places)))) (sym c.in-Le.is) (le_stands k.table a c.args.places c.atom_part.ensures.linear over s)) c.atom_part.ensures.stands
+part-returns-in-Le-clause-stands t c = atom_stands AtMost c.args.places c.in-Le.term (formula_of c.args.formula.now) (ap formula_of c.in-Le.is) c.atom_part.ensures.linear c.requires.over c.atom_part.result c.atom_part.ensures.stands
 
 pub part-returns-in-Le-clause-heavy : goal.part-returns-in-Le-clause-heavy
-part-returns-in-Le-clause-heavy t c =
-    let a = c.in-Le.term in
-    let over : IsTermOver c.args.places a = subst (λ f. IsOver c.args.places (formula_of f)) c.in-Le.is c.requires.over in
-    let P : CompileError → Type 0 = λ e. e ≡ Heavy → IsHeavyAtom AtMost (own a) c.args.base (length a.terms) c.args.limit in
-    let R : CompileError → Type 0 = λ e. e ≡ Heavy → IsFirstHeavy c.args.base c.args.places c.args.limit (formula_of c.args.formula.now) in
-    err_weaker c.atom_part.result P R (λ e heavy is.
-    subst (λ f. IsFirstHeavy c.args.base c.args.places c.args.limit (formula_of f)) (sym c.in-Le.is) (le_heavy c.args.base c.args.places c.args.limit a c.atom_part.ensures.linear over (heavy is))) c.atom_part.ensures.heavy
+part-returns-in-Le-clause-heavy t c = atom_heavy AtMost c.args.base c.args.places c.args.limit c.in-Le.term (formula_of c.args.formula.now) (ap formula_of c.in-Le.is) c.atom_part.ensures.linear c.requires.over c.atom_part.result c.atom_part.ensures.heavy
 
 -- ---- Eq
 pub part-atom_part-requires-in-Eq-clause-letters : goal.part-atom_part-requires-in-Eq-clause-letters
-part-atom_part-requires-in-Eq-clause-letters t c = le_letters c.args.base c.args.places c.in-Eq.term (subst (λ f. IsNarrow c.args.base c.args.places (formula_of f)) c.in-Eq.is c.requires.letters) (subst (λ f. IsOver c.args.places (formula_of f)) c.in-Eq.is c.requires.over)
+part-atom_part-requires-in-Eq-clause-letters t c = atom_letters Equal c.args.base c.args.places c.in-Eq.term (subst (λ f. IsNarrow c.args.base c.args.places (formula_of f)) c.in-Eq.is c.requires.letters) (subst (λ f. IsOver c.args.places (formula_of f)) c.in-Eq.is c.requires.over)
 
 pub part-returns-in-Eq-clause-shape : goal.part-returns-in-Eq-clause-shape
-part-returns-in-Eq-clause-shape t c =
-    let a = c.in-Eq.term in
-    let over : IsTermOver c.args.places a = subst (λ f. IsOver c.args.places (formula_of f)) c.in-Eq.is c.requires.over in
-    let P : Kept → Type 0 = λ k. IsShaped c.args.base (length a.terms) k.table in
-    let R : Kept → Type 0 = λ k. IsShaped c.args.base (length (free_places (formula_of c.args.formula.now) c.args.places)) k.table in
-    IfOk-weaker c.atom_part-in-Eq.result P R (λ k shape.
-    subst (λ f. IsShaped c.args.base (length (free_places (formula_of f) c.args.places)) k.table) (sym c.in-Eq.is)
-    (subst (λ n. IsShaped c.args.base n k.table) (sym (free_count a c.args.places c.atom_part-in-Eq.ensures.linear over.places)) shape)) c.atom_part-in-Eq.ensures.shape
+part-returns-in-Eq-clause-shape t c = atom_shape Equal c.args.base c.args.places c.in-Eq.term (formula_of c.args.formula.now) (ap formula_of c.in-Eq.is) c.atom_part-in-Eq.ensures.linear c.requires.over c.atom_part-in-Eq.result c.atom_part-in-Eq.ensures.shape
 
 pub part-returns-in-Eq-clause-made : goal.part-returns-in-Eq-clause-made
-part-returns-in-Eq-clause-made t c =
-    let a = c.in-Eq.term in
-    let over : IsTermOver c.args.places a = subst (λ f. IsOver c.args.places (formula_of f)) c.in-Eq.is c.requires.over in
-    let P : Kept → Type 0 = λ k. IsShaped c.args.base (length a.terms) k.table in
-    let Q : Kept → Type 0 = λ k. IsOfAtom Equal (own a) c.args.base (length a.terms) c.args.limit k.table in
-    let R : Kept → Type 0 = λ k. IsMade c.args.base c.args.places c.args.limit (formula_of c.args.formula.now) k.table in
-    both_ok c.atom_part-in-Eq.result P Q R (λ k shape made.
-    subst (λ f. IsMade c.args.base c.args.places c.args.limit (formula_of f) k.table) (sym c.in-Eq.is) (eq_made c.args.base c.args.places c.args.limit a k.table c.atom_part-in-Eq.ensures.linear over shape made)) c.atom_part-in-Eq.ensures.shape c.atom_part-in-Eq.ensures.made
+part-returns-in-Eq-clause-made t c = atom_made Equal c.args.base c.args.places c.args.limit c.in-Eq.term (formula_of c.args.formula.now) (ap formula_of c.in-Eq.is) c.atom_part-in-Eq.ensures.linear c.requires.over c.atom_part-in-Eq.result c.atom_part-in-Eq.ensures.shape c.atom_part-in-Eq.ensures.made
 
 pub part-returns-in-Eq-clause-stands : goal.part-returns-in-Eq-clause-stands
-part-returns-in-Eq-clause-stands t c =
-    let a = c.in-Eq.term in
-    let over : IsTermOver c.args.places a = subst (λ f. IsOver c.args.places (formula_of f)) c.in-Eq.is c.requires.over in
-    let P : Kept → Type 0 = λ k. StandsForWhole k.table (holds (model.Eq (own a))) in
-    let R : Kept → Type 0 = λ k. StandsForWhole k.table (set_of (formula_of c.args.formula.now) (spread c.args.places (free_places (formula_of c.args.formula.now) c.args.places))) in
-    IfOk-weaker c.atom_part-in-Eq.result P R (λ k s.
-    subst (λ f. StandsForWhole k.table (set_of (formula_of f) (spread c.args.places (free_places (formula_of f) c.args.places)))) (sym c.in-Eq.is) (eq_stands k.table a c.args.places c.atom_part-in-Eq.ensures.linear over s)) c.atom_part-in-Eq.ensures.stands
+part-returns-in-Eq-clause-stands t c = atom_stands Equal c.args.places c.in-Eq.term (formula_of c.args.formula.now) (ap formula_of c.in-Eq.is) c.atom_part-in-Eq.ensures.linear c.requires.over c.atom_part-in-Eq.result c.atom_part-in-Eq.ensures.stands
 
 pub part-returns-in-Eq-clause-heavy : goal.part-returns-in-Eq-clause-heavy
-part-returns-in-Eq-clause-heavy t c =
-    let a = c.in-Eq.term in
-    let over : IsTermOver c.args.places a = subst (λ f. IsOver c.args.places (formula_of f)) c.in-Eq.is c.requires.over in
-    let P : CompileError → Type 0 = λ e. e ≡ Heavy → IsHeavyAtom Equal (own a) c.args.base (length a.terms) c.args.limit in
-    let R : CompileError → Type 0 = λ e. e ≡ Heavy → IsFirstHeavy c.args.base c.args.places c.args.limit (formula_of c.args.formula.now) in
-    err_weaker c.atom_part-in-Eq.result P R (λ e heavy is.
-    subst (λ f. IsFirstHeavy c.args.base c.args.places c.args.limit (formula_of f)) (sym c.in-Eq.is) (eq_heavy c.args.base c.args.places c.args.limit a c.atom_part-in-Eq.ensures.linear over (heavy is))) c.atom_part-in-Eq.ensures.heavy
+part-returns-in-Eq-clause-heavy t c = atom_heavy Equal c.args.base c.args.places c.args.limit c.in-Eq.term (formula_of c.args.formula.now) (ap formula_of c.in-Eq.is) c.atom_part-in-Eq.ensures.linear c.requires.over c.atom_part-in-Eq.result c.atom_part-in-Eq.ensures.heavy
 
 -- ---- Not
 pub part-returns-in-Ok-clause-made : goal.part-returns-in-Ok-clause-made
