@@ -9,13 +9,13 @@ use Rattle.lash_model.specs.Formulas.{Sort, Int, Real, Comparison, AtMost, Equal
 use Rattle.lash_model.specs.Meaning.{compares, holds, IsWhole, Solves}
 use Rattle.lash_model.proofs.Totals.{total-scale}
 
-shift_denominator : (c d : ℕ) (b : ℤ) → pos c *ℤ (b *ℤ pos d) ≡ b *ℤ pos (c * d)
+pub shift_denominator : (c d : ℕ) (b : ℤ) → pos c *ℤ (b *ℤ pos d) ≡ b *ℤ pos (c * d)
 shift_denominator c d b = by_diff (λ b. pos c *ℤ (b *ℤ pos d) ≡ b *ℤ pos (c * d)) (λ p q. simp (pos_diff, diff_mul) (diff_same _ _ _ _ (omega arith))) b
 
-swap_factors : (e c d : ℕ) → suc e * (suc c * d) ≡ suc c * (suc e * d)
+pub swap_factors : (e c d : ℕ) → suc e * (suc c * d) ≡ suc c * (suc e * d)
 swap_factors e c d = omega arith
 
-joined_factor : (e c : ℕ) → suc e * suc c ≡ suc (c + e * suc c)
+pub joined_factor : (e c : ℕ) → suc e * suc c ≡ suc (c + e * suc c)
 joined_factor e c = omega arith
 
 up_real : (g : Formula) (c e : ℕ) (n : List ℤ) (m : ℤ) (d : ℕ) → holds g (scale (suc c) (scale (suc e) n ++ m ∷ [])) (suc c * (suc e * d)) → holds g (scale (suc e) (scale (suc c) n) ++ (pos (suc c) *ℤ m) ∷ []) (suc e * (suc c * d))

@@ -3,6 +3,7 @@ pub mod Words
 pub mod Lassos
 pub mod Formulas
 pub mod Meaning
+pub mod Sets
 pub mod Tables
 pub mod Acceptance
 pub mod Standing

@@ -2,16 +2,16 @@
 //! standing for a set.
 #![tactic(auto)]
 
-ghost use Rattle.std.specs.Prelude.{◌≡◌, ℕ, suc, ◌+◌, ◌*◌, ◌^◌, ◌<◌, ◌≤◌, List, [], ◌∷◌, ◌++◌, length, ℤ, pos, negsuc, ◌+ℤ◌, ◌*ℤ◌};
+ghost use Rattle.std.specs.Prelude.{◌≡◌, ℕ, ◌+◌, ◌*◌, ◌^◌, ◌<◌, ◌≤◌, List, [], ◌∷◌, ◌++◌, length, ℤ, pos, negsuc, ◌+ℤ◌, ◌*ℤ◌};
 ghost use Rattle.std.specs.List.{AllByRecursion};
 ghost use Rattle.integer_laws.specs.Differences.{diff};
 ghost use Rattle.integer_laws.specs.Runs.{run, gain};
-ghost use Rattle.integer_laws.specs.Vectors.{scale};
 ghost use Rattle.lash_model.specs.Letters.{digits, number, AreDigits, digit, sign_bit, sign_letter};
 ghost use Rattle.lash_model.specs.Words.{value, track_digits, IsBounded, SpellsNumber};
 ghost use Rattle.lash_model.specs.Lassos.{Lasso, numerator, denominator};
 ghost use Rattle.lash_model.specs.Formulas.{Sort, Formula};
 ghost use Rattle.lash_model.specs.Meaning.{Solves};
+ghost use Rattle.lash_model.specs.Sets.{IsOfFractions, KeepsScale, set_of, bound_at, bound_by_fraction};
 
 /// The expansion of a letter is the one list of so many digits below the base whose number is the letter.
 pub fn letters_are_their_digits()
@@ -55,5 +55,16 @@ pub fn lassos_are_differences()
 
 /// A set does not tell fractions from the same fractions over a multiple of their denominator.
 pub fn sets_are_of_fractions()
-    ensures { (sorts : List Sort) (f : Formula) (c : ℕ) (ns : List ℤ) (d : ℕ) → (Solves sorts f ns d → Solves sorts f (scale (suc c) ns) (suc c * d)) × (Solves sorts f (scale (suc c) ns) (suc c * d) → Solves sorts f ns d) }
+    ensures { (sorts : List Sort) (f : Formula) → IsOfFractions (Solves sorts f) }
+{}
+
+/// Neither does the set of a formula whose numerators stand elsewhere, if they are multiplied there as they are here.
+pub fn placed_sets_are_of_fractions()
+    ensures { (f : Formula) (placed : List ℤ → List ℤ) → KeepsScale placed → IsOfFractions (set_of f placed) }
+{}
+
+/// Neither does such a set in which an entry is bound, by a whole number or by a fraction.
+pub fn bound_sets_are_of_fractions()
+    ensures whole { (f : Formula) (placed : List ℤ → List ℤ) (track : ℕ) → IsOfFractions (set_of f placed) → IsOfFractions (bound_at track (set_of f placed)) }
+    ensures fraction { (f : Formula) (placed : List ℤ → List ℤ) (track : ℕ) → IsOfFractions (set_of f placed) → IsOfFractions (bound_by_fraction track (set_of f placed)) }
 {}

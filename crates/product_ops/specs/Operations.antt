@@ -1,7 +1,5 @@
 -- The truth functions of two sets.
 use Rattle.std.specs.Prelude.{ℕ, Bool, ◌&&◌, ◌||◌, not, ◌⊎◌, List, ℤ}
-use Rattle.lash_model.specs.Formulas.{Formula}
-use Rattle.lash_model.specs.Meaning.{holds}
 use Rattle.product_ops.specs.Tracks.{TrackLists, pick_entries}
 use Rattle.product_ops.specs.declared.operation.Op.{Op}
 use Rattle.product_ops.specs.declared.operation.Op.TheVariants.{And, Or, AndNot}
@@ -17,7 +15,3 @@ abbrev pub joined : Op → (List ℤ → ℕ → Type 0) → (List ℤ → ℕ �
 joined And P Q m ns d = P (pick_entries m.left ns) d × Q (pick_entries m.right ns) d
 joined Or P Q m ns d = P (pick_entries m.left ns) d ⊎ Q (pick_entries m.right ns) d
 joined AndNot P Q m ns d = P (pick_entries m.left ns) d × (Q (pick_entries m.right ns) d → ⊥)
-
--- the set of a formula whose numerators stand elsewhere
-abbrev pub set_of : Formula → (List ℤ → List ℤ) → List ℤ → ℕ → Type 0
-set_of f placed ns d = holds f (placed ns) d

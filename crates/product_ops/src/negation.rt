@@ -4,8 +4,8 @@ ghost use Rattle.std.specs.Prelude.{◌≡◌, ℕ, ℤ, List};
 ghost use Rattle.lash_model.specs.Formulas.{Formula};
 ghost use Rattle.lash_model.specs.Standing.{StandsForWhole};
 ghost use Rattle.lash_model.specs.Tables.{IsTable, IsDiagram};
+ghost use Rattle.lash_model.specs.Sets.{set_of};
 ghost use Rattle.canonical_laws.specs.Canonical.{IsCanonical};
-ghost use Rattle.product_ops.specs.Operations.{set_of};
 ghost use Rattle.product_ops.specs.Negation.{negated, AcceptsOthers};
 
 use step_tables::{Cells, Table};

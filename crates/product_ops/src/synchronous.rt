@@ -6,8 +6,9 @@ ghost use Rattle.graph_laws.specs.Exploring.{IsExplored, IsHeavy};
 ghost use Rattle.lash_model.specs.Formulas.{Formula};
 ghost use Rattle.lash_model.specs.Standing.{StandsForWhole};
 ghost use Rattle.lash_model.specs.Tables.{IsTable, IsDiagram};
+ghost use Rattle.lash_model.specs.Sets.{set_of};
 ghost use Rattle.product_ops.specs.Filling.{IsFilling};
-ghost use Rattle.product_ops.specs.Operations.{joined, set_of};
+ghost use Rattle.product_ops.specs.Operations.{joined};
 ghost use Rattle.product_ops.specs.Pairs.{pairs, left_operand, right_operand, out_by, AreOperands, IsPairTable, AcceptsBoth};
 
 use crate::filling::{Layout, lay_out};

@@ -15,9 +15,9 @@ use Rattle.lash_model.specs.Formulas.{Formula, Exists, Int}
 use Rattle.lash_model.specs.Meaning.{holds}
 use Rattle.lash_model.specs.Tables.{Table}
 use Rattle.lash_model.specs.Standing.{StandsForWhole}
+use Rattle.lash_model.specs.Sets.{inserted_at, set_of, bound_at}
 use Rattle.formula_core.specs.Atoms.{HasLinearAtoms}
 use Rattle.formula_core.specs.Counts.{uses, free_places}
-use Rattle.subset_build.specs.Projection.{inserted_at, set_of, bound_at}
 use Rattle.set_compile.specs.Positions.{position_of, spread}
 use Rattle.set_compile.proofs.Places.{unmapped, free_tracks}
 use Rattle.set_compile.proofs.Spreading.{Depends, entry_in, entry_past, length-spread, stands_same}

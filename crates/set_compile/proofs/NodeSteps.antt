@@ -11,12 +11,12 @@ use Rattle.lash_model.specs.Formulas.{Int, Linear, IsLinear, Formula, Comparison
 use Rattle.lash_model.specs.Meaning.{holds}
 use Rattle.lash_model.specs.Standing.{StandsForWhole}
 use Rattle.lash_model.specs.Tables.{Table}
+use Rattle.lash_model.specs.Sets.{set_of}
 use Rattle.threshold_laws.specs.Thresholds.{IsHeavyAtom}
 use Rattle.step_tables.specs.Kept.{Kept}
 use Rattle.formula_core.specs.Counts.{uses, free_places}
 use Rattle.formula_core.specs.FewLetters.{HasFewLetters}
 use Rattle.product_ops.specs.Negation.{AcceptsOthers}
-use Rattle.product_ops.specs.Operations.{set_of}
 use Rattle.product_ops.specs.Pairs.{pairs}
 use Rattle.product_ops.specs.declared.operation.Op.TheVariants.{And as Both, Or as Either}
 use Rattle.subset_build.specs.Projection.{kept, IsHeavyProjection}

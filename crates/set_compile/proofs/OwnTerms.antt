@@ -13,9 +13,9 @@ use Rattle.lash_model.specs.Formulas.{Linear, IsLinear, IsInside, Comparison, At
 use Rattle.lash_model.specs.Meaning.{total, compares, holds}
 use Rattle.lash_model.specs.Tables.{Table}
 use Rattle.lash_model.specs.Standing.{StandsForWhole}
+use Rattle.lash_model.specs.Sets.{set_of}
 use Rattle.formula_core.specs.Terms.{coefficient_at, added}
 use Rattle.formula_core.specs.Counts.{free_places}
-use Rattle.product_ops.specs.Operations.{set_of}
 use Rattle.set_compile.specs.Conditions.{IsTermOver}
 use Rattle.set_compile.specs.Positions.{position_of, spread}
 use Rattle.set_compile.specs.Steps.{numbered, own}

@@ -14,10 +14,11 @@ use Rattle.lash_model.specs.Meaning.{total, holds}
 use Rattle.lash_model.specs.Words.{value, values}
 use Rattle.lash_model.specs.Tables.{Table}
 use Rattle.lash_model.specs.Standing.{StandsForWhole}
+use Rattle.lash_model.specs.Sets.{set_of}
 use Rattle.formula_core.specs.Atoms.{HasLinearAtoms}
 use Rattle.formula_core.specs.Counts.{uses, free_places}
 use Rattle.product_ops.specs.Tracks.{pick_entries}
-use Rattle.product_ops.specs.Operations.{joined, set_of}
+use Rattle.product_ops.specs.Operations.{joined}
 use Rattle.product_ops.specs.declared.operation.Op.TheVariants.{And as Both, Or as Either}
 use Rattle.set_compile.specs.Positions.{position_of, positions, spread, shared}
 use Rattle.set_compile.specs.Steps.{always, all_tracks}

@@ -3,10 +3,11 @@
 ghost use Rattle.std.specs.Prelude.{◌≡◌, ◌+◌, ◌-◌, ◌<◌, ◌≤◌, ℕ, ℤ, List, length, IfOk, IfErr, OnOk};
 ghost use Rattle.lash_model.specs.Formulas.{Int, Formula as Set, Exists};
 ghost use Rattle.lash_model.specs.Standing.{StandsForWhole};
+ghost use Rattle.lash_model.specs.Sets.{set_of, bound_at};
 ghost use Rattle.formula_core.specs.Atoms.{HasLinearAtoms};
 ghost use Rattle.formula_core.specs.Counts.{free_places};
 ghost use Rattle.formula_core.specs.Shape.{formula_of};
-ghost use Rattle.subset_build.specs.Projection.{set_of, bound_at, IsHeavyProjection};
+ghost use Rattle.subset_build.specs.Projection.{IsHeavyProjection};
 ghost use Rattle.set_compile.specs.Positions.{spread};
 ghost use Rattle.set_compile.specs.Steps.{IsShaped, IsOfSubsets, IsMade, IsFirstHeavy};
 

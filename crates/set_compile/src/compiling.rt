@@ -5,13 +5,13 @@ ghost use Rattle.std.specs.Prelude.{◌≡◌, ◌<◌, ◌≤◌, ◌^◌, ◌�
 ghost use Rattle.graph_laws.specs.Exploring.{IsHeavy};
 ghost use Rattle.lash_model.specs.Meaning.{holds};
 ghost use Rattle.lash_model.specs.Standing.{StandsFor, StandsForWhole, all_int};
+ghost use Rattle.lash_model.specs.Sets.{set_of};
 ghost use Rattle.canonical_laws.specs.Canonical.{IsCanonical};
 ghost use Rattle.formula_core.specs.Atoms.{HasLinearAtoms};
 ghost use Rattle.formula_core.specs.Counts.{free_places};
 ghost use Rattle.formula_core.specs.FewLetters.{FitsLetters};
 ghost use Rattle.formula_core.specs.Shape.{formula_of};
 ghost use Rattle.formula_core.specs.Variables.{sort_of};
-ghost use Rattle.product_ops.specs.Operations.{set_of};
 ghost use Rattle.set_compile.specs.Conditions.{IsOver, BindsIntegers};
 ghost use Rattle.set_compile.specs.Positions.{spread};
 ghost use Rattle.set_compile.specs.Steps.{IsShaped, IsMade, IsWidened, IsCompiled, IsRefused, IsFirstHeavy, HasHeavyPairs, always, all_tracks};

@@ -4,7 +4,8 @@ ghost use Rattle.std.specs.Prelude.{◌≡◌, ◌≤◌, ◌^◌, ℕ, ℤ, Lis
 ghost use Rattle.graph_laws.specs.Exploring.{IsHeavy};
 ghost use Rattle.lash_model.specs.Formulas.{Formula};
 ghost use Rattle.lash_model.specs.Standing.{StandsForWhole};
-ghost use Rattle.product_ops.specs.Operations.{joined, set_of};
+ghost use Rattle.lash_model.specs.Sets.{set_of};
+ghost use Rattle.product_ops.specs.Operations.{joined};
 ghost use Rattle.product_ops.specs.Pairs.{pairs};
 ghost use Rattle.set_compile.specs.Steps.{IsShaped, IsOfPairs};
 

@@ -4,9 +4,9 @@ ghost use Rattle.std.specs.Prelude.{◌≡◌, ℕ, ℤ, List, IfOk, IfErr};
 ghost use Rattle.lash_model.specs.Formulas.{Formula};
 ghost use Rattle.lash_model.specs.Tables.{IsDiagram};
 ghost use Rattle.lash_model.specs.Standing.{StandsForWhole};
+ghost use Rattle.lash_model.specs.Sets.{set_of};
 ghost use Rattle.canonical_laws.specs.Canonical.{IsCanonical};
 ghost use Rattle.product_ops.specs.Negation.{negated, AcceptsOthers};
-ghost use Rattle.product_ops.specs.Operations.{set_of};
 ghost use Rattle.set_compile.specs.Steps.{IsShaped};
 
 use crate::CompileError;

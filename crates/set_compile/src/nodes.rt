@@ -5,10 +5,11 @@ ghost use Rattle.std.specs.Prelude.{◌≡◌, ◌≤◌, ◌^◌, ℕ, ℤ, Lis
 ghost use Rattle.graph_laws.specs.Exploring.{IsHeavy};
 ghost use Rattle.lash_model.specs.Formulas.{Formula as Set, And, Or};
 ghost use Rattle.lash_model.specs.Standing.{StandsForWhole};
+ghost use Rattle.lash_model.specs.Sets.{set_of};
 ghost use Rattle.formula_core.specs.Atoms.{HasLinearAtoms};
 ghost use Rattle.formula_core.specs.Counts.{uses, free_places};
 ghost use Rattle.formula_core.specs.Shape.{formula_of};
-ghost use Rattle.product_ops.specs.Operations.{joined as joined_sets, set_of};
+ghost use Rattle.product_ops.specs.Operations.{joined as joined_sets};
 ghost use Rattle.product_ops.specs.Pairs.{pairs};
 ghost use Rattle.set_compile.specs.Conditions.{IsOver, BindsIntegers, IsNarrow};
 ghost use Rattle.set_compile.specs.Positions.{shared, spread};

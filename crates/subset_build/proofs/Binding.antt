@@ -18,9 +18,10 @@ use Rattle.lash_model.specs.Words.{spelled, value, values, SpellsNumber}
 use Rattle.lash_model.specs.Tables.{Table, letters, IsTable, IsDiagram}
 use Rattle.lash_model.specs.Standing.{StandsForWhole}
 use Rattle.lash_model.specs.Acceptance.{accepts_word}
+use Rattle.lash_model.specs.Sets.{inserted_at, bound_at}
 use Rattle.lash_model.proofs.Digits.{digit-quotient}
 use Rattle.lash_model.proofs.Numbers.{value-padded, word_for_natural, word_for_negative}
-use Rattle.subset_build.specs.Projection.{inserted_at, with_digit, kept, woven, IsAcceptedOver, AcceptsSome, bound_at}
+use Rattle.subset_build.specs.Projection.{with_digit, kept, woven, IsAcceptedOver, AcceptsSome}
 use Rattle.subset_build.proofs.KeptLetters.{with_digit_below, digit_before, digit_at, digit_behind, sign_letter_below}
 
 -- ---- one track

@@ -8,8 +8,9 @@ use Rattle.std.proofs.lemmas.List.{take-append-drop, length-take-le, length-drop
 use Rattle.std.proofs.lemmas.List.Edits.{length-insert, get_or-insert_below, get_or-insert_at, get_or-insert_above}
 use Rattle.std.proofs.lemmas.List.Elements.{All-map, All-weaker, All-cons, All-append, All-take, All-drop}
 use Rattle.lash_model.specs.Letters.{digits, number, digit, AreDigits, sign_letter}
+use Rattle.lash_model.specs.Sets.{inserted_at}
 use Rattle.lash_model.proofs.Digits.{digits_are, length-digits, digits-number, number-digits, number_below}
-use Rattle.subset_build.specs.Projection.{inserted_at, with_digit}
+use Rattle.subset_build.specs.Projection.{with_digit}
 use Rattle.subset_build.specs.Closing.{AreOver}
 
 -- there are no more sign vectors than letters

@@ -1,18 +1,13 @@
 -- The projection of a diagram along a track: the set of the states in which the diagram can be, whatever the track's digits are (the
 -- subset construction of Rabin and Scott).
-use Rattle.std.specs.Prelude.{◌≡◌, ℕ, ◌+◌, ◌-◌, ◌*◌, ◌^◌, ◌<◌, ◌↔◌, Bool, true, ◌&&◌, nat_eq, nat_lt, nat_le, if◌then◌else◌, List, [], ◌∷◌, ◌++◌, length, map, take, drop, slice_index, filter, All, AllPairs, Contains, IsTrue, ℤ, pos, ◌*ℤ◌}
+use Rattle.std.specs.Prelude.{◌≡◌, ℕ, ◌+◌, ◌-◌, ◌*◌, ◌^◌, ◌<◌, ◌↔◌, Bool, true, ◌&&◌, nat_eq, nat_lt, nat_le, if◌then◌else◌, List, [], ◌∷◌, ◌++◌, length, map, slice_index, filter, All, AllPairs, Contains, IsTrue}
 use Rattle.std.specs.List.{range_with_len, list_any}
 use Rattle.graph_laws.specs.Walks.{go, copies}
 use Rattle.graph_laws.specs.Exploring.{Steps, KeyTable, list_at, IsExplored, IsHeavy}
 use Rattle.lash_model.specs.Letters.{digits, number, sign_letter}
 use Rattle.lash_model.specs.Tables.{Table, letters, ints}
 use Rattle.lash_model.specs.Acceptance.{accepts_word}
-use Rattle.lash_model.specs.Formulas.{Formula}
-use Rattle.lash_model.specs.Meaning.{holds}
-
--- a list with one more entry, at a place
-abbrev pub inserted_at : {A : Type 0} → ℕ → A → List A → List A
-inserted_at i x xs = take i xs ++ x ∷ drop i xs
+use Rattle.lash_model.specs.Sets.{inserted_at}
 
 -- base, number of kept tracks, track, kept letter, digit: the letter of all tracks that has the digit on the track, and else the
 -- digits of the kept letter. A sign vector is put together so in base 2
@@ -114,11 +109,3 @@ pub record IsAcceptedOver (t : Table) (track sign : ℕ) (w : List ℕ) : Type 0
 -- the one diagram accepts a kept word exactly where the other accepts a word of all tracks over it
 abbrev pub AcceptsSome : Table → ℕ → Table → Type 0
 AcceptsSome t track u = (sign : ℕ) (w : List ℕ) → sign < 2 ^ kept t → All (λ l. l < t.base ^ kept t) w → IsTrue (accepts_word u sign w) ↔ IsAcceptedOver t track sign w
-
--- the set of a formula whose numerators stand elsewhere
-abbrev pub set_of : Formula → (List ℤ → List ℤ) → List ℤ → ℕ → Type 0
-set_of f placed ns d = holds f (placed ns) d
-
--- the set in which the entry at a place is bound by a whole number
-abbrev pub bound_at : ℕ → (List ℤ → ℕ → Type 0) → List ℤ → ℕ → Type 0
-bound_at track P ns d = (m : ℤ) × P (inserted_at track (m *ℤ pos d) ns) d

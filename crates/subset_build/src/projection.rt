@@ -6,7 +6,8 @@ ghost use Rattle.graph_laws.specs.Exploring.{IsExplored, IsHeavy};
 ghost use Rattle.lash_model.specs.Formulas.{Formula};
 ghost use Rattle.lash_model.specs.Standing.{StandsForWhole};
 ghost use Rattle.lash_model.specs.Tables.{IsTable, IsDiagram};
-ghost use Rattle.subset_build.specs.Projection.{kept, subsets, AreStartSets, IsSubsetTable, IsHeavyProjection, AcceptsSome, set_of, bound_at};
+ghost use Rattle.lash_model.specs.Sets.{set_of, bound_at};
+ghost use Rattle.subset_build.specs.Projection.{kept, subsets, AreStartSets, IsSubsetTable, IsHeavyProjection, AcceptsSome};
 
 use crate::filling::{Layout, lay_out};
 use crate::outputs::fill_outs;

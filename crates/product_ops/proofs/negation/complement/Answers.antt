@@ -2,7 +2,7 @@ use Rattle.std.proofs.Common.{rules, arith, ◌≡◌, ◌-◌, ◌<◌, ◌∙�
 use Rattle.lash_model.specs.Tables.{Table, IsTable}
 use Rattle.canonical_laws.specs.Canonical.{IsCanonical}
 use Rattle.lash_model.specs.Standing.{StandsForWhole}
-use Rattle.product_ops.specs.Operations.{set_of}
+use Rattle.lash_model.specs.Sets.{set_of}
 use Rattle.product_ops.specs.Negation.{negated, AcceptsOthers}
 use Rattle.product_ops.proofs.Exchanging.{one_changed, all_changed, accepts_others, others_stand, negated_canonical}
 use Rattle.product_ops.proofs.negation.complement.Goals as goal

@@ -1,6 +1,6 @@
 use Rattle.std.proofs.Common.{◌∙◌, ap, sym, subst, ◌^◌, length}
 use Rattle.lash_model.specs.Tables.{IsShape}
-use Rattle.product_ops.specs.Operations.{set_of}
+use Rattle.lash_model.specs.Sets.{set_of}
 use Rattle.product_ops.specs.Pairs.{left_operand, right_operand}
 use Rattle.product_ops.proofs.PairRuns.{answers}
 use Rattle.product_ops.proofs.Joining.{reads_picked, product_stands}

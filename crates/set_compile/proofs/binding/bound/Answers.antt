@@ -1,10 +1,11 @@
 use Rattle.std.proofs.Common.{◌≡◌, ◌+◌, ℕ, length, true, arith, sym, ap, ◌∙◌, subst}
 use Rattle.lash_model.specs.Standing.{StandsForWhole}
 use Rattle.lash_model.specs.Tables.{Table}
+use Rattle.lash_model.specs.Sets.{set_of, bound_at}
 use Rattle.step_tables.specs.Kept.{Kept}
 use Rattle.formula_core.specs.Counts.{uses, free_places}
 use Rattle.formula_core.specs.Shape.{formula_of}
-use Rattle.subset_build.specs.Projection.{set_of, bound_at, IsHeavyProjection}
+use Rattle.subset_build.specs.Projection.{IsHeavyProjection}
 use Rattle.set_compile.specs.Positions.{spread}
 use Rattle.set_compile.specs.Steps.{IsOfSubsets}
 use Rattle.set_compile.proofs.Bodies.{bound_stands, unbound_stands}

@@ -1,8 +1,9 @@
 use Rattle.std.proofs.Common.{◌≡◌, arith, sym, subst}
 use Rattle.lash_model.specs.Standing.{StandsForWhole}
+use Rattle.lash_model.specs.Sets.{set_of, bound_at}
 use Rattle.canonical_laws.proofs.Carrying.{stands_carried}
 use Rattle.step_tables.specs.Kept.{Kept}
-use Rattle.subset_build.specs.Projection.{kept, set_of, bound_at}
+use Rattle.subset_build.specs.Projection.{kept}
 use Rattle.set_compile.specs.Steps.{IsOfSubsets}
 use Rattle.set_compile.proofs.Minimizing.{some_kept}
 use Rattle.set_compile.proofs.binding.projected.Goals as goal

@@ -1,7 +1,7 @@
 use Rattle.std.proofs.Common.{sym, subst}
 use Rattle.lash_model.specs.Standing.{StandsForWhole}
+use Rattle.lash_model.specs.Sets.{set_of}
 use Rattle.formula_core.specs.Counts.{free_places}
-use Rattle.product_ops.specs.Operations.{set_of}
 use Rattle.set_compile.specs.Conditions.{IsOver, IsNarrow}
 use Rattle.set_compile.specs.Positions.{spread}
 use Rattle.set_compile.specs.Steps.{IsMade}

@@ -1,8 +1,9 @@
 use Rattle.std.proofs.Common.{◌≤◌, ◌^◌, length, sym, ap, ◌∙◌, subst}
 use Rattle.lash_model.specs.Standing.{StandsForWhole}
+use Rattle.lash_model.specs.Sets.{set_of}
 use Rattle.formula_core.specs.Counts.{free_places}
 use Rattle.formula_core.specs.Shape.{formula_of}
-use Rattle.product_ops.specs.Operations.{joined, set_of}
+use Rattle.product_ops.specs.Operations.{joined}
 use Rattle.product_ops.specs.Tracks.{TrackLists}
 use Rattle.product_ops.specs.declared.operation.Op.TheVariants.{And as Both}
 use Rattle.set_compile.specs.Positions.{spread}

@@ -1,8 +1,9 @@
 use Rattle.std.proofs.Common.{sym, subst}
 use Rattle.lash_model.specs.Standing.{StandsForWhole}
+use Rattle.lash_model.specs.Sets.{set_of}
 use Rattle.canonical_laws.proofs.Carrying.{stands_carried}
 use Rattle.step_tables.specs.Kept.{Kept}
-use Rattle.product_ops.specs.Operations.{joined, set_of}
+use Rattle.product_ops.specs.Operations.{joined}
 use Rattle.set_compile.specs.Steps.{IsOfPairs}
 use Rattle.set_compile.proofs.Minimizing.{both_kept}
 use Rattle.set_compile.proofs.joining.join.Goals as goal

@@ -1,7 +1,7 @@
 use Rattle.std.proofs.Common.{sym, subst}
 use Rattle.lash_model.specs.Standing.{StandsForWhole}
+use Rattle.lash_model.specs.Sets.{set_of}
 use Rattle.step_tables.specs.Kept.{Kept}
-use Rattle.product_ops.specs.Operations.{set_of}
 use Rattle.set_compile.proofs.negation.exchanged.Goals as goal
 
 pub returns-clause-stands : goal.returns-clause-stands

@@ -5,12 +5,13 @@ use Rattle.std.proofs.lemmas.Result.{IfOk-weaker}
 use Rattle.lash_model.specs.Formulas as model
 use Rattle.lash_model.specs.Standing.{StandsForWhole}
 use Rattle.lash_model.specs.Formulas.{AtMost, Equal}
+use Rattle.lash_model.specs.Sets.{set_of}
 use Rattle.step_tables.specs.Kept.{Kept}
 use Rattle.formula_core.specs.Counts.{free_places}
 use Rattle.formula_core.specs.Shape.{formula_of}
 use Rattle.formula_core.specs.Variables.{sort_of}
 use Rattle.product_ops.specs.Negation.{AcceptsOthers}
-use Rattle.product_ops.specs.Operations.{joined, set_of}
+use Rattle.product_ops.specs.Operations.{joined}
 use Rattle.product_ops.specs.declared.operation.Op.TheVariants.{And as Both, Or as Either}
 use Rattle.set_compile.specs.Conditions.{IsOver, BindsIntegers, IsNarrow}
 use Rattle.set_compile.specs.Positions.{shared, spread}

@@ -1,6 +1,7 @@
 use Rattle.std.proofs.Common.{subst}
 use Rattle.lash_model.specs.Standing.{StandsForWhole}
-use Rattle.product_ops.specs.Operations.{joined, set_of}
+use Rattle.lash_model.specs.Sets.{set_of}
+use Rattle.product_ops.specs.Operations.{joined}
 use Rattle.product_ops.specs.Tracks.{TrackLists}
 use Rattle.set_compile.proofs.nodes.joined.Goals as goal
 

@@ -1,6 +1,6 @@
 use Rattle.std.proofs.Common.{◌-◌, ◌∙◌, ap, sym, subst, length}
 use Rattle.lash_model.specs.Tables.{IsShape}
-use Rattle.subset_build.specs.Projection.{set_of}
+use Rattle.lash_model.specs.Sets.{set_of}
 use Rattle.subset_build.proofs.LayingOut.{shape_of, set_table}
 use Rattle.subset_build.proofs.SetRuns.{accepts_some}
 use Rattle.subset_build.proofs.Binding.{projection_stands}
