@@ -1,5 +1,4 @@
 pub mod TrackReading
 pub mod PairRuns
 pub mod Joining
-pub mod LayingOut
 pub mod Exchanging

@@ -1,19 +1,20 @@
 -- The pair after a word is the pair of states after what each operand reads of the word.
-use Rattle.std.proofs.Common.{◌≡◌, ℕ, ◌+◌, ◌*◌, ◌^◌, ◌<◌, ◌≤◌, Bool, true, false, List, [], ◌∷◌, length, map, arith, refl, ◌∙◌, sym, ap, subst, zero-add}
-use Rattle.std.specs.Prelude.{slice_index, slice_get, nat_eq, All}
+use Rattle.std.proofs.Common.{◌≡◌, ℕ, ◌^◌, ◌<◌, Bool, true, false, List, [], ◌∷◌, length, map, refl, ◌∙◌, sym, ap, subst, zero-add}
+use Rattle.std.specs.Prelude.{slice_index, slice_get, nat_eq}
 use Rattle.std.specs.declared.option.Option.TheVariants.{Some}
-use Rattle.std.specs.List.{slice_index_or, range_with_len}
 use Rattle.std.proofs.lemmas.List.FromFn.{get_or-map-range_with_len, length-map-range_with_len}
+use Rattle.std.proofs.lemmas.List.{length-map, get_or-map}
 use Rattle.std.proofs.lemmas.Option.{slice_get_within, get_or_from_slice_get}
 use Rattle.graph_laws.specs.Walks.{go}
 use Rattle.graph_laws.specs.Paths.{Path}
-use Rattle.graph_laws.specs.Exploring.{Steps, KeyTable, list_at, led, after, IsPath, position, IsExplored, IsHeavy}
+use Rattle.graph_laws.specs.Exploring.{KeyTable, list_at, led, after, IsPath, position, IsExplored, IsHeavy}
 use Rattle.graph_laws.proofs.Weighing.{not_both}
-use Rattle.lash_model.specs.Tables.{Table, letters}
-use Rattle.lash_model.specs.Acceptance.{int_state, accepts_word}
+use Rattle.lash_model.specs.Tables.{Table, letters, ints}
+use Rattle.lash_model.specs.Acceptance.{int_state}
+use Rattle.step_tables.specs.Kept.{Kept, plain, answered, laid}
 use Rattle.product_ops.specs.Tracks.{TrackLists, read_by}
 use Rattle.product_ops.specs.Operations.{truth}
-use Rattle.product_ops.specs.Pairs.{Operand, root_by, step_by, accepts_by, left_operand, right_operand, pair, pairs_of, pairs, bit, out_by, IsPairTable, AcceptsBoth}
+use Rattle.product_ops.specs.Pairs.{Operand, root_by, step_by, accepts_by, left_operand, right_operand, pair, pairs_of, pairs, bit, pair_says, IsPairTable, AcceptsBoth}
 use Rattle.product_ops.specs.declared.operation.Op.{Op}
 
 -- the state of an operand after what it reads of a sign vector and a word
@@ -59,6 +60,20 @@ answers op a b m limit t h base tracks sign w lt inside = ap (λ q. nat_eq (slic
     out : slice_index t.outs (position h.found p) ≡ bit (truth op (accepts_by (left_operand a m) sign w) (accepts_by (right_operand b m) sign w))
     out = h.outs_are (position h.found p) (slice_get_within h.found.keys (position h.found p) (pair (state_by (left_operand a m) sign w) (state_by (right_operand b m) sign w)) here)
         ∙ ap (λ k. bit (truth op (nat_eq (slice_index a.outs (slice_index k 0)) 1) (nat_eq (slice_index b.outs (slice_index k 1)) 1))) (get_or_from_slice_get h.found.keys (position h.found p) (pair (state_by (left_operand a m) sign w) (state_by (right_operand b m) sign w)) [] here)
+
+-- ---- the table of pairs
+pub starts_of : (a b : Table) (m : TrackLists) (limit : ℕ) (k : KeyTable) → IsExplored (pairs a b m) limit k → length k.starts ≡ 2 ^ m.tracks
+starts_of a b m limit k e = e.starts_count ∙ starts_count (left_operand a m) (right_operand b m)
+
+pub pair_table : (op : Op) (a b : Table) (m : TrackLists) (limit base tracks : ℕ) (k : KeyTable) (u : Kept) → IsExplored (pairs a b m) limit k → u ≡ plain (laid base tracks k (answered (pair_says op a b) k.keys)) → IsPairTable op a b m limit u.table
+pair_table op a b m limit base tracks k u e is = record {
+  found = k;
+  explored = e;
+  states = ap (λ (v : Kept). ints v.table) is ∙ length-map k.keys (λ x. bit (pair_says op a b x));
+  roots_are = ap (λ (v : Kept). v.table.roots) is;
+  rows_are = ap (λ (v : Kept). v.table.rows) is;
+  outs_are = λ i lt. ap (λ (v : Kept). slice_index v.table.outs i) is ∙ get_or-map (λ x. bit (pair_says op a b x)) k.keys i [] 0 lt;
+}
 
 -- pairs that are too heavy have no table
 pub not_heavy_with_table : (op : Op) (a b : Table) (m : TrackLists) (limit : ℕ) (t : Table) → IsHeavy (pairs a b m) limit → IsPairTable op a b m limit t → ⊥

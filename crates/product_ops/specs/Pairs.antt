@@ -89,9 +89,13 @@ pub record IsReading (o : Operand) (of_letters of_signs : List ℕ) : Type 0 whe
 abbrev pub bit : Bool → ℕ
 bit b = if b then 1 else 0
 
+-- whether the output of a pair is yes
+abbrev pub pair_says : Op → Table → Table → List ℕ → Bool
+pair_says op a b k = truth op (nat_eq (slice_index a.outs (slice_index k 0)) 1) (nat_eq (slice_index b.outs (slice_index k 1)) 1)
+
 -- the output of the pair at a position
 abbrev pub out_by : Op → Table → Table → List (List ℕ) → ℕ → ℕ
-out_by op a b keys i = bit (truth op (nat_eq (slice_index a.outs (slice_index (list_at keys i) 0)) 1) (nat_eq (slice_index b.outs (slice_index (list_at keys i) 1)) 1))
+out_by op a b keys i = bit (pair_says op a b (list_at keys i))
 
 -- the table of exactly the reached pairs, numbered by their least paths, within the limit of cells
 pub record IsPairTable (op : Op) (a b : Table) (m : TrackLists) (limit : ℕ) (t : Table) : Type 0 where

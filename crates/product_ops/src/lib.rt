@@ -1,7 +1,6 @@
 //! Truth functions of automata over integers: the product of two diagrams, and the complement of one.
 #![tactic(auto)]
 
-mod filling;
 mod laws;
 mod negation;
 mod operation;

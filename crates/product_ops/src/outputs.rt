@@ -1,44 +1,28 @@
 //! The outputs of pairs: the truth function of the two states' outputs.
 
-ghost use Rattle.std.specs.Prelude.{◌≡◌, ◌*◌, ◌^◌, ◌<◌, All, IsTrue, length};
-ghost use Rattle.lash_model.specs.Tables.{ints, IsDiagram};
-ghost use Rattle.product_ops.specs.Pairs.{is_pair, out_by};
-ghost use Rattle.product_ops.specs.Filling.{IsLaid, IsFilling};
+ghost use Rattle.lash_model.specs.Tables.{ints};
+ghost use Rattle.product_ops.specs.Pairs.{is_pair, pair_says};
 
 use crate::Op;
-use crate::filling::Layout;
 use crate::operation::decide;
-use step_tables::{Cells, Plain, Table};
+use step_tables::{Answers, Cells, Table};
 
-/// Two diagrams, and what is made of them.
+/// The truth function of two diagrams' outputs.
 #[derive(Drop)]
-pub struct Plan<'a, A: Cells, B: Cells> {
+pub struct PairOutputs<'a, A: Cells, B: Cells> {
     pub op: Op,
     pub left: &'a Table<A>,
     pub right: &'a Table<B>,
-    pub layout: &'a Layout<'a>,
 }
 
-/// The output of the pair at a position.
-fn out_of<A: Cells, B: Cells>(plan: &Plan<'_, A, B>, position: u32) -> u32
-    requires position { position < length plan.now.layout.now.found.now.keys }
-    requires proper { All (λ k. IsTrue (is_pair (ints plan.now.left.now.table) (ints plan.now.right.now.table) k)) plan.now.layout.now.found.now.keys }
-    ensures value { result ≡ out_by plan.now.op plan.now.left.now.table plan.now.right.now.table plan.now.layout.now.found.now.keys position }
-    ensures below { result < 2 }
-{
-    let key = plan.layout.found.key(position);
-    let left = plan.left.out(key[0]) == 1;
-    let right = plan.right.out(key[1]) == 1;
-    if decide(plan.op, left, right) { 1 } else { 0 }
-}
+impl<A: Cells, B: Cells> Answers for PairOutputs<'_, A, B> {
+    ghost says_yes = { λ p. pair_says p.op p.left.now.table p.right.now.table };
 
-/// Fills the outputs.
-pub fn fill_outs<A: Cells, B: Cells>(plan: &Plan<'_, A, B>, made: &mut Table<Plain>)
-    requires proper { All (λ k. IsTrue (is_pair (ints plan.now.left.now.table) (ints plan.now.right.now.table) k)) plan.now.layout.now.found.now.keys }
-    requires laid { IsLaid plan.now.layout.now.base plan.now.layout.now.tracks plan.now.layout.now.found.now (2 ^ plan.now.layout.now.tracks) (length plan.now.layout.now.found.now.keys * plan.now.layout.now.found.now.width) made.old }
-    ensures filled { IsFilling plan.now.layout.now.base plan.now.layout.now.tracks plan.now.layout.now.found.now (out_by plan.now.op plan.now.left.now.table plan.now.right.now.table plan.now.layout.now.found.now.keys) (2 ^ plan.now.layout.now.tracks) (length plan.now.layout.now.found.now.keys * plan.now.layout.now.found.now.width) (length plan.now.layout.now.found.now.keys) made.new }
-{
-    for position in 0..plan.layout.found.len() {
-        made.set_out(position, out_of(plan, position));
+    ghost is_proper = { λ p. is_pair (ints p.left.now.table) (ints p.right.now.table) };
+
+    fn is_yes(&self, key: &[u32]) -> bool {
+        let left = self.left.out(key[0]) == 1;
+        let right = self.right.out(key[1]) == 1;
+        decide(self.op, left, right)
     }
 }

@@ -7,12 +7,10 @@ ghost use Rattle.lash_model.specs.Formulas.{Formula};
 ghost use Rattle.lash_model.specs.Standing.{StandsForWhole};
 ghost use Rattle.lash_model.specs.Tables.{IsTable, IsDiagram};
 ghost use Rattle.lash_model.specs.Sets.{set_of};
-ghost use Rattle.product_ops.specs.Filling.{IsFilling};
 ghost use Rattle.product_ops.specs.Operations.{joined};
 ghost use Rattle.product_ops.specs.Pairs.{pairs, left_operand, right_operand, out_by, AreOperands, IsPairTable, AcceptsBoth};
 
-use crate::filling::{Layout, lay_out};
-use crate::outputs::{Plan, fill_outs};
+use crate::outputs::PairOutputs;
 use crate::pairs::Pairs;
 use crate::{Op, TrackMap};
 use lash_io::Memory;
@@ -79,21 +77,9 @@ pub fn product<A: Cells, B: Cells>(
         Ok(found) => found,
         Err(error) => return Err(error),
     };
-    let layout = Layout {
-        base: left.base(),
-        tracks: map.tracks(),
-        found: &found,
-    };
-    let mut made = match lay_out(alloc, &layout) {
-        Ok(made) => made,
-        Err(Memory) => return Err(BuildError::Memory),
-    };
-    let plan = Plan {
-        op,
-        left,
-        right,
-        layout: &layout,
-    };
-    fill_outs(&plan, &mut made);
-    Ok(made)
+    let outputs = PairOutputs { op, left, right };
+    match Table::of_explored(alloc, left.base(), map.tracks(), &found, &outputs) {
+        Ok(made) => Ok(made),
+        Err(Memory) => Err(BuildError::Memory),
+    }
 }

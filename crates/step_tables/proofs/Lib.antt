@@ -1,3 +1,4 @@
 pub mod Keys
 pub mod Placing
 pub mod Numbering
+pub mod Laying

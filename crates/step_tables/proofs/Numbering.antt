@@ -214,11 +214,16 @@ keys_within : (m : Steps) (ks : List (List ℕ)) → length ks ≤ weigh m ks
 keys_within m [] = omega arith
 keys_within m (k ∷ ks) = omega (arith, keys_within m ks)
 
+cells_within : (m : Steps) (ks : List (List ℕ)) → length ks * (m.width + 1) ≤ weigh m ks
+cells_within m [] = omega arith
+cells_within m (k ∷ ks) = omega (arith, cells_within m ks)
+
 -- and its rows and starts are positions
 pub linked : (m : Steps) (limit : ℕ) (t : KeyTable) → IsExplored m limit t → limit < 2 ^ 32 → IsLinked t
 linked m limit t e small = record {
   few = omega (arith, keys_within m t.keys, e.weighs, e.within, small);
   rows_count = e.rows_count;
+  few_cells = subst (λ w. length t.keys * (w + 1) ≤ t.cells) (sym e.width) (omega (arith, cells_within m t.keys, e.weighs));
   starts_in = starts_in m limit t e;
   rows_in = targets_in m limit t e;
 }

@@ -53,9 +53,10 @@ pub record Following (m : Steps) (at letter : ℕ) (t : KeyTable) : Type 0 where
   pub count : length t.rows ≡ at * m.width + letter
   pub places : (i l : ℕ) → i < length t.keys → l < m.width → i * m.width + l < length t.rows → Placed t.keys paths (slice_index t.rows (i * m.width + l)) (m.step (list_at t.keys i) l) (more (path_at paths i) l)
 
--- each key has a row, and starts and rows are positions of keys
+-- each key has a row, starts and rows are positions of keys, and the cells are at least one for each key and letter and one more
 pub record IsLinked (t : KeyTable) : Type 0 where
   pub few : length t.keys < 2 ^ 32
   pub rows_count : length t.rows ≡ length t.keys * t.width
+  pub few_cells : length t.keys * (t.width + 1) ≤ t.cells
   pub starts_in : All (λ p. p < length t.keys) t.starts
   pub rows_in : All (λ p. p < length t.keys) t.rows

@@ -1,5 +1,5 @@
 -- Tables as they are kept: a table, and of each of its five lists the bound that its cells stay below.
-use Rattle.std.specs.Prelude.{ℕ, ◌*◌, ◌^◌, ◌≤◌, ◌≡◌, [], length, replicate}
+use Rattle.std.specs.Prelude.{ℕ, ◌*◌, ◌^◌, ◌≤◌, ◌≡◌, Bool, if◌then◌else◌, List, [], length, map, replicate}
 use Rattle.graph_laws.specs.Exploring.{KeyTable}
 use Rattle.lash_model.specs.Tables.{Table, IsTable}
 
@@ -34,16 +34,33 @@ zeros base tracks ints fracs = record {
   colours = replicate fracs 0;
 }
 
--- the diagram of what was explored, with outputs of zeros: base, tracks, what was explored
-abbrev pub laid : ℕ → ℕ → KeyTable → Table
-laid base tracks k = record {
+-- the answers of keys in order: 1 for yes, and 0 for no
+abbrev pub answered : (List ℕ → Bool) → List (List ℕ) → List ℕ
+answered says_yes keys = map (λ k. if says_yes k then 1 else 0) keys
+
+-- the diagram of what was explored: base, tracks, what was explored, the output of each key
+abbrev pub laid : ℕ → ℕ → KeyTable → List ℕ → Table
+laid base tracks k outs = record {
   base = base;
   tracks = tracks;
   roots = k.starts;
   rows = k.rows;
-  outs = replicate (length k.keys) 0;
+  outs = outs;
   frac_rows = [];
   colours = [];
+}
+
+-- the automaton of two explorations, of which the second starts in what each key of the first leads to: base, tracks, what was
+-- explored first and second, the colour of each key of the second
+abbrev pub laid_in_two : ℕ → ℕ → KeyTable → KeyTable → List ℕ → Table
+laid_in_two base tracks k l colours = record {
+  base = base;
+  tracks = tracks;
+  roots = k.starts;
+  rows = k.rows;
+  outs = l.starts;
+  frac_rows = l.rows;
+  colours = colours;
 }
 
 -- the three counts are those of the table, which is in range, and cells hold both colours and both answers

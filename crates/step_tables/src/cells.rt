@@ -59,6 +59,13 @@ impl Plain {
         }
     }
 
+    /// A list that is given away.
+    pub fn of(cells: Vec<u32>) -> Plain
+        ensures { result ≡ cells.items }
+    {
+        Plain { cells }
+    }
+
     /// A copy of a list.
     pub fn copied(alloc: Global, list: &[u32]) -> Result<Plain, Memory>
         ensures { IfOk result (λ p. p ≡ list.now) }

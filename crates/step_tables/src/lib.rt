@@ -1,6 +1,7 @@
 //! Tables of automata on digits, and the exploration of machines into such tables.
 #![tactic(auto)]
 
+mod answers;
 mod breadth_first;
 mod cells;
 mod entries;
@@ -10,6 +11,7 @@ mod found;
 mod machine;
 mod table;
 
+pub use answers::Answers;
 pub use breadth_first::explore;
 pub use cells::{Cells, Plain};
 pub use errors::{BuildError, ExploreError};

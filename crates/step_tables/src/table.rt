@@ -1,14 +1,15 @@
 //! Tables of automata on digits: for each state and letter a target, in flat lists of cells. Reading or changing an entry takes
 //! one access. A table without fraction states is a Number Decision Diagram, any other a Real Vector Automaton.
 
-ghost use Rattle.std.specs.Prelude.{◌≡◌, ℕ, ◌+◌, ◌*◌, ◌<◌, ◌≤◌, ◌^◌, List, All, length, slice_index, slice_set, nat_eq, if◌then◌else◌, IfOk, IfSome};
+ghost use Rattle.std.specs.Prelude.{◌≡◌, ℕ, ◌+◌, ◌*◌, ◌<◌, ◌≤◌, ◌^◌, List, All, length, slice_index, slice_set, nat_eq, if◌then◌else◌, IsTrue, IfOk, IfSome};
 ghost use Rattle.graph_laws.specs.Walks.{go, copies};
 ghost use Rattle.lash_model.specs.Acceptance.{accepts_word, accepts_lasso};
 ghost use Rattle.lash_model.specs.Lassos.{IsLasso};
 ghost use Rattle.lash_model.specs.Tables.{IsShape, IsTable, IsDiagram, letters, ints, fracs, out_bound};
 ghost use Rattle.digit_codes.specs.Reading.{lasso_of};
-ghost use Rattle.step_tables.specs.Kept.{plain, zeros, laid};
+ghost use Rattle.step_tables.specs.Kept.{plain, zeros, answered, laid, laid_in_two};
 
+use crate::answers::{Answers, bits_of};
 use crate::entries::entry_at;
 use crate::{Cells, Explored, Plain};
 use digit_codes::{Base, Lasso};
@@ -77,39 +78,89 @@ impl Table<Plain> {
         })
     }
 
-    /// The diagram of what was explored, in which all outputs are 0: a root for each start, a state for each key, and the rows as they
-    /// were found.
-    pub fn of_explored(
-        alloc: Global,
+    /// The table of lists that are in range.
+    fn of_lists(
         base: Base,
         tracks: u32,
-        found: &Explored,
-    ) -> Result<Table<Plain>, Memory>
-        requires shape { IsShape base tracks (length found.now.keys) 0 }
-        requires starts { length found.now.starts ≡ 2 ^ tracks }
-        requires width { found.now.width ≡ base ^ tracks }
-        ensures laid { IfOk result (λ t. t ≡ plain (laid base tracks found.now)) }
-        ensures table { IfOk result (λ t. IsTable t.table) }
+        roots: Plain,
+        rows: Plain,
+        outs: Plain,
+        frac_rows: Plain,
+        colours: Plain,
+    ) -> Table<Plain>
+        requires { IsTable (record { base = base; tracks = tracks; roots = roots; rows = rows; outs = outs; frac_rows = frac_rows; colours = colours }) }
+        ensures { result ≡ plain (record { base = base; tracks = tracks; roots = roots; rows = rows; outs = outs; frac_rows = frac_rows; colours = colours }) }
     {
-        let letters = base.radix().pow(tracks);
-        let ints = found.len();
-        let roots = Plain::copied(alloc, found.starts())?;
-        let rows = Plain::copied(alloc, found.rows())?;
-        let outs = Plain::new(alloc, ints as usize)?;
-        let frac_rows = Plain::new(alloc, 0)?;
-        let colours = Plain::new(alloc, 0)?;
-        Ok(Table {
+        Table {
             base,
             tracks,
-            letters,
-            ints,
-            fracs: 0,
+            letters: base.radix().pow(tracks),
+            ints: outs.len() as u32,
+            fracs: colours.len() as u32,
             roots,
             rows,
             outs,
             frac_rows,
             colours,
-        })
+        }
+    }
+
+    /// The diagram of what was explored: a root for each start, a state for each key, the rows as they were found, and the keys' answers
+    /// as outputs. The base to the number of tracks is at most 4,096, which is the number of letters, there is a start for each sign
+    /// vector, and the cells are at most 16,777,216.
+    pub fn of_explored<A: Answers>(
+        alloc: Global,
+        base: Base,
+        tracks: u32,
+        found: &Explored,
+        outputs: &A,
+    ) -> Result<Table<Plain>, Memory>
+        requires few { base ^ tracks ≤ 4096 }
+        requires width { found.now.width ≡ base ^ tracks }
+        requires starts { length found.now.starts ≡ 2 ^ tracks }
+        requires cells { found.now.cells ≤ 16777216 }
+        requires proper { All (λ k. IsTrue (A.is_proper outputs.now k)) found.now.keys }
+        ensures laid { IfOk result (λ t. t ≡ plain (laid base tracks found.now (answered (A.says_yes outputs.now) found.now.keys))) }
+        ensures table { IfOk result (λ t. IsTable t.table) }
+    {
+        let _radix = base.radix();
+        let roots = Plain::copied(alloc, found.starts())?;
+        let rows = Plain::copied(alloc, found.rows())?;
+        let outs = Plain::of(bits_of(alloc, outputs, found)?);
+        let frac_rows = Plain::new(alloc, 0)?;
+        let colours = Plain::new(alloc, 0)?;
+        Ok(Table::of_lists(base, tracks, roots, rows, outs, frac_rows, colours))
+    }
+
+    /// The automaton of two explorations, of which the second starts in what each key of the first leads to, in order: the first gives
+    /// the roots and the integer states, the starts of the second are the outputs, and its keys are the fraction states, with their
+    /// answers as colours. The base to the number of tracks is at most 4,096, which is both numbers of letters, the first has a start
+    /// for each sign vector, and the cells of both are at most 16,777,216.
+    pub fn of_two_explored<A: Answers>(
+        alloc: Global,
+        base: Base,
+        tracks: u32,
+        whole: &Explored,
+        fraction: &Explored,
+        colours: &A,
+    ) -> Result<Table<Plain>, Memory>
+        requires few { base ^ tracks ≤ 4096 }
+        requires width { whole.now.width ≡ base ^ tracks }
+        requires fraction_width { fraction.now.width ≡ base ^ tracks }
+        requires starts { length whole.now.starts ≡ 2 ^ tracks }
+        requires outs { length fraction.now.starts ≡ length whole.now.keys }
+        requires cells { whole.now.cells + fraction.now.cells ≤ 16777216 }
+        requires proper { All (λ k. IsTrue (A.is_proper colours.now k)) fraction.now.keys }
+        ensures laid { IfOk result (λ t. t ≡ plain (laid_in_two base tracks whole.now fraction.now (answered (A.says_yes colours.now) fraction.now.keys))) }
+        ensures table { IfOk result (λ t. IsTable t.table) }
+    {
+        let _radix = base.radix();
+        let roots = Plain::copied(alloc, whole.starts())?;
+        let rows = Plain::copied(alloc, whole.rows())?;
+        let outs = Plain::copied(alloc, fraction.starts())?;
+        let frac_rows = Plain::copied(alloc, fraction.rows())?;
+        let colours = Plain::of(bits_of(alloc, colours, fraction)?);
+        Ok(Table::of_lists(base, tracks, roots, rows, outs, frac_rows, colours))
     }
 }
 

@@ -1,4 +1,3 @@
 pub mod Projection
 pub mod Closing
 pub mod Subsets
-pub mod Filling

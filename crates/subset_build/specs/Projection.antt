@@ -68,9 +68,13 @@ subsets t track sets = record {
   is_proper = is_rising_in 0 (ints t);
 }
 
+-- whether some member's output is yes
+abbrev pub set_says : Table → List ℕ → Bool
+set_says t set = list_any (λ q. nat_eq (slice_index t.outs q) 1) set
+
 -- 1 where some member's output is yes, and else 0
 abbrev pub out_of_set : Table → List ℕ → ℕ
-out_of_set t set = if list_any (λ q. nat_eq (slice_index t.outs q) 1) set then 1 else 0
+out_of_set t set = if set_says t set then 1 else 0
 
 -- the table of exactly the reached sets, numbered by their least paths, within the limit of cells
 pub record IsSubsetTable (t : Table) (track limit : ℕ) (u : Table) : Type 0 where

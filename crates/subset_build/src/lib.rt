@@ -2,7 +2,6 @@
 #![tactic(auto)]
 
 mod closure;
-mod filling;
 mod kept_letters;
 mod laws;
 mod marks;

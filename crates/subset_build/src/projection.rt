@@ -9,8 +9,7 @@ ghost use Rattle.lash_model.specs.Tables.{IsTable, IsDiagram};
 ghost use Rattle.lash_model.specs.Sets.{set_of, bound_at};
 ghost use Rattle.subset_build.specs.Projection.{kept, subsets, AreStartSets, IsSubsetTable, IsHeavyProjection, AcceptsSome};
 
-use crate::filling::{Layout, lay_out};
-use crate::outputs::fill_outs;
+use crate::outputs::SetOutputs;
 use crate::subsets::Subsets;
 use crate::{StartSets, sign_closure};
 use lash_io::Memory;
@@ -72,15 +71,9 @@ pub fn project_int<C: Cells>(
         Ok(found) => found,
         Err(error) => return Err(error),
     };
-    let layout = Layout {
-        base: table.base(),
-        tracks: table.tracks() - 1,
-        found: &found,
-    };
-    let mut made = match lay_out(alloc, &layout) {
-        Ok(made) => made,
-        Err(Memory) => return Err(BuildError::Memory),
-    };
-    fill_outs(table, &layout, &mut made);
-    Ok(made)
+    let outputs = SetOutputs { table };
+    match Table::of_explored(alloc, table.base(), table.tracks() - 1, &found, &outputs) {
+        Ok(made) => Ok(made),
+        Err(Memory) => Err(BuildError::Memory),
+    }
 }

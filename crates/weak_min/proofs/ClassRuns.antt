@@ -1,7 +1,8 @@
 -- The class after a word is the class of the state after the word.
-use Rattle.std.proofs.Common.{◌≡◌, ℕ, ◌+◌, ◌*◌, ◌≤◌, ◌<◌, List, [], ◌∷◌, length, arith, refl, ◌∙◌, sym, ap, subst}
+use Rattle.std.proofs.Common.{◌≡◌, ℕ, ◌+◌, ◌*◌, ◌^◌, ◌≤◌, ◌<◌, List, [], ◌∷◌, length, arith, refl, ◌∙◌, sym, ap, subst}
 use Rattle.std.specs.Prelude.{slice_index}
 use Rattle.std.specs.List.{AllByRecursion}
+use Rattle.std.proofs.Math.Nat.{pow-le-pow_left}
 use Rattle.std.proofs.lemmas.List.{get_or-map, length-map}
 use Rattle.std.proofs.lemmas.List.Elements.{recursion_from_All}
 use Rattle.graph_laws.specs.Walks.{go}
@@ -12,8 +13,11 @@ use Rattle.lash_model.specs.Tables.{letters, ints}
 use Rattle.canonical_laws.specs.Behaviour.{Behaves}
 use Rattle.canonical_laws.specs.Canonical.{walked}
 use Rattle.canonical_laws.proofs.Diagrams.{read_below, place_within}
-use Rattle.weak_min.proofs.FillingSteps.{few_signs}
 use Rattle.weak_min.specs.Quotients.{Classed, IsClassed, class_key, quotient}
+
+-- there are no more sign vectors than letters
+pub few_signs : (base n : ℕ) → 2 ≤ base → base ^ n ≤ 4096 → 2 ^ n ≤ 4096
+few_signs base n h k = omega (arith, k, pow-le-pow_left h n)
 
 -- states that behave alike do so after a letter
 behaves_next : (rows : List ℕ) (width : ℕ) (outs : List ℕ) (p q l : ℕ) → l < width → Behaves rows width outs p q → Behaves rows width outs (slice_index rows (p * width + l)) (slice_index rows (q * width + l))

@@ -1,34 +1,37 @@
 -- The table of the explored classes of a diagram is canonical, and accepts the same words.
-use Rattle.std.proofs.Common.{◌≡◌, ℕ, ◌+◌, ◌*◌, ◌^◌, ◌<◌, List, [], ◌∷◌, length, arith, refl, ◌∙◌, sym, ap, subst}
+use Rattle.std.proofs.Common.{◌≡◌, ℕ, zero, suc, ◌^◌, ◌<◌, Bool, if◌then◌else◌, List, [], ◌∷◌, length, arith, refl, ◌∙◌, sym, ap, subst}
 use Rattle.std.specs.Prelude.{slice_index, slice_get, nat_eq}
 use Rattle.std.specs.declared.option.Option.TheVariants.{Some}
 use Rattle.std.specs.List.{slice_index_or, AllByRecursion}
 use Rattle.std.proofs.lemmas.Bool.{cases_order}
-use Rattle.std.proofs.lemmas.Nat.{pow_pos}
-use Rattle.std.proofs.lemmas.List.{length-map}
+use Rattle.std.proofs.lemmas.List.{length-map, get_or-map}
 use Rattle.std.proofs.lemmas.List.Elements.{recursion_from_All, All-from_recursion}
 use Rattle.std.proofs.lemmas.Option.{slice_get_within, get_or_from_slice_get, slice_get-get_or}
 use mathlib.Core.Logic.{inl, inr}
 use Rattle.graph_laws.specs.Walks.{go}
 use Rattle.graph_laws.specs.Paths.{Path, path_at, start_path, AtMost}
-use Rattle.graph_laws.specs.Exploring.{Steps, list_at, after, IsPath, weigh, IsDistinct, KeyTable, position, IsExplored}
+use Rattle.graph_laws.specs.Exploring.{after, IsPath, IsDistinct, KeyTable, position, IsExplored}
 use Rattle.graph_laws.proofs.Weighing.{table_reached}
 use Rattle.graph_laws.proofs.Positions.{positions_follow, own_position}
-use Rattle.lash_model.specs.Tables.{Table, letters, ints, IsShape, IsTable}
+use Rattle.lash_model.specs.Tables.{Table, letters, ints, IsTable}
 use Rattle.canonical_laws.specs.Behaviour.{Behaves}
 use Rattle.canonical_laws.specs.Canonical.{IsPathOf, walked, IsNumbered, IsSeparated, IsCanonical, AcceptSameWords}
-use Rattle.canonical_laws.proofs.Diagrams.{same_lists, same_table, no_frac_rows}
-use Rattle.step_tables.specs.Kept.{Kept}
-use Rattle.weak_min.specs.Quotients.{Classed, IsClassed, class_key, quotient}
-use Rattle.weak_min.specs.Filling.{AreOuts, IsFilling}
-use Rattle.weak_min.proofs.ClassRuns.{go_in, root_in, led_class, class_out, walked_in, after_class}
+use Rattle.canonical_laws.proofs.Diagrams.{out_below}
+use Rattle.step_tables.specs.Kept.{answered, laid}
+use Rattle.weak_min.specs.Quotients.{Classed, IsClassed, class_key, quotient, class_says}
+use Rattle.weak_min.proofs.ClassRuns.{go_in, root_in, class_in, led_class, class_out, walked_in, after_class}
+
+abbrev bit : Bool → ℕ
+bit b = if b then 1 else 0
 
 -- ---- what was explored, and outputs for its positions
 record Made (c : Classed) (k : KeyTable) (outs : List ℕ) : Type 0 where
   pub classed : IsClassed c
   pub explored : IsExplored (quotient c) 16777216 k
-  pub count : length outs ≡ length k.keys
-  pub filled : AreOuts c.table.outs k.keys (length k.keys) outs
+  pub outs_are : outs ≡ answered (class_says c.table) k.keys
+
+counted : (c : Classed) (k : KeyTable) (outs : List ℕ) → Made c k outs → length outs ≡ length k.keys
+counted c k outs m = ap length m.outs_are ∙ length-map k.keys (λ x. bit (class_says c.table x))
 
 -- the position after a path, by the letters of the diagram
 at_width : (c : Classed) (k : KeyTable) (outs : List ℕ) → Made c k outs → (p : Path) → position k p ≡ walked k.starts k.rows (letters c.table) p
@@ -57,9 +60,16 @@ key_after c k outs m i q w q_in e a = ap (λ n. slice_get k.keys (go k.rows n i 
     ∙ ap (λ x. Some x) (led_class c m.classed q w q_in a)
 
 -- the output at a position
+bit_back : (x : ℕ) → x < 2 → bit (nat_eq x 1) ≡ x
+bit_back zero h = refl
+bit_back (suc zero) h = refl
+bit_back (suc (suc x)) h = absurd (omega (arith, h))
+
 out_at : (c : Classed) (k : KeyTable) (outs : List ℕ) → Made c k outs → (i q : ℕ) → q < ints c.table → slice_get k.keys i ≡ Some (class_key c.classes q) → slice_index outs i ≡ slice_index c.table.outs q
-out_at c k outs m i q q_in e = m.filled.each i (slice_get_within k.keys i (class_key c.classes q) e)
-    ∙ ap (λ x. slice_index c.table.outs (slice_index x 0)) (get_or_from_slice_get k.keys i (class_key c.classes q) [] e)
+out_at c k outs m i q q_in e = ap (λ xs. slice_index xs i) m.outs_are
+    ∙ get_or-map (λ x. bit (class_says c.table x)) k.keys i [] 0 (slice_get_within k.keys i (class_key c.classes q) e)
+    ∙ ap (λ x. bit (class_says c.table x)) (get_or_from_slice_get k.keys i (class_key c.classes q) [] e)
+    ∙ bit_back (slice_index c.table.outs (slice_index c.classes q)) (out_below c.table m.classed.table m.classed.diagram (slice_index c.classes q) (class_in c m.classed q q_in))
     ∙ class_out c m.classed q q_in
 
 out_after : (c : Classed) (k : KeyTable) (outs : List ℕ) → Made c k outs → (i q : ℕ) (w : List ℕ) → q < ints c.table → slice_get k.keys i ≡ Some (class_key c.classes q) → AllByRecursion (λ l. l < letters c.table) w → slice_index outs (go k.rows (letters c.table) i w) ≡ slice_index c.table.outs (go c.table.rows (letters c.table) q w)
@@ -77,13 +87,13 @@ numbered c k outs m = record {
   paths = m.explored.paths;
   count = sym as_long;
   valid = λ i lt. listed_path c k outs m (path_at m.explored.paths i) (m.explored.valid i (start_path 0) (subst (λ n. i < n) as_long lt));
-  leads = λ i lt. sym (at_width c k outs m (path_at m.explored.paths i)) ∙ own_position (quotient c) 16777216 k m.explored i (subst (λ n. i < n) m.count lt);
+  leads = λ i lt. sym (at_width c k outs m (path_at m.explored.paths i)) ∙ own_position (quotient c) 16777216 k m.explored i (subst (λ n. i < n) (counted c k outs m) lt);
   rising = m.explored.rising;
   least = λ p v. subst (λ s. AtMost (path_at m.explored.paths s) p) (at_width c k outs m p) (m.explored.least p (path_back c k outs m p v));
 }
   where
     as_long : length outs ≡ length m.explored.paths
-    as_long = m.count ∙ ap length m.explored.reached ∙ length-map m.explored.paths (after (quotient c))
+    as_long = counted c k outs m ∙ ap length m.explored.reached ∙ length-map m.explored.paths (after (quotient c))
 
 -- ---- no two positions behave alike
 same_place : (ks : List (List ℕ)) (x : List ℕ) (p q : ℕ) → IsDistinct ks → slice_get ks p ≡ Some x → slice_get ks q ≡ Some x → p ≡ q
@@ -96,10 +106,10 @@ separated : (c : Classed) (k : KeyTable) (outs : List ℕ) → Made c k outs →
 separated c k outs m p q p_in q_in b = same_place k.keys (class_key c.classes j.state) p q m.explored.distinct (i.key ∙ ap (λ x. Some (x ∷ [])) (m.classed.classes.coarse i.state j.state i.inside j.inside alike)) j.key
   where
     i : HasState c k p
-    i = state_at c k outs m p (subst (λ n. p < n) m.count p_in)
+    i = state_at c k outs m p (subst (λ n. p < n) (counted c k outs m) p_in)
 
     j : HasState c k q
-    j = state_at c k outs m q (subst (λ n. q < n) m.count q_in)
+    j = state_at c k outs m q (subst (λ n. q < n) (counted c k outs m) q_in)
 
     alike : Behaves c.table.rows (letters c.table) c.table.outs i.state j.state
     alike w a = sym (out_after c k outs m p i.state w i.inside i.key a) ∙ b w a ∙ out_after c k outs m q j.state w j.inside j.key a
@@ -111,63 +121,24 @@ start_key c k outs m j lt = m.explored.complete (start_path j) v ∙ ap (λ x. S
     v : IsPath (quotient c) (start_path j)
     v = record { start = subst (λ n. j < n) (sym (length-map c.table.roots (class_key c.classes))) lt; letters = All-from_recursion (λ l. l < letters c.table) [] tt }
 
--- the table of the explored classes
-table_of : Table → KeyTable → List ℕ → Table
-table_of t k outs = record { base = t.base; tracks = t.tracks; roots = k.starts; rows = k.rows; outs = outs; frac_rows = []; colours = [] }
-
-words : (c : Classed) (k : KeyTable) (outs : List ℕ) → Made c k outs → AcceptSameWords c.table (table_of c.table k outs)
-unfolding table_of
+words : (c : Classed) (k : KeyTable) (outs : List ℕ) → Made c k outs → AcceptSameWords c.table (laid c.table.base c.table.tracks k outs)
 words c k outs m sign w lt a = ap (λ x. nat_eq x 1) (sym (out_after c k outs m (slice_index k.starts sign) (slice_index c.table.roots sign) w (root_in c m.classed sign root) (start_key c k outs m sign root) a))
   where
     root : sign < length c.table.roots
     root = subst (λ n. sign < n) (sym m.classed.table.roots_count) lt
 
-canonical_of : (c : Classed) (k : KeyTable) (outs : List ℕ) → Made c k outs → IsTable (table_of c.table k outs) → IsCanonical (table_of c.table k outs)
-unfolding table_of
+canonical_of : (c : Classed) (k : KeyTable) (outs : List ℕ) → Made c k outs → IsTable (laid c.table.base c.table.tracks k outs) → IsCanonical (laid c.table.base c.table.tracks k outs)
 canonical_of c k outs m h = record { table = h; diagram = refl; numbered = numbered c k outs m; separated = separated c k outs m }
 
--- ---- the shape of the table
-weigh_classes : (m : Steps) (ks : List (List ℕ)) → ((k : List ℕ) → m.weight k ≡ 0) → weigh m ks ≡ length ks * (m.width + 1)
-weigh_classes m [] none = omega arith
-weigh_classes m (k ∷ ks) none = omega (arith, none k, weigh_classes m ks none)
-
-pub shape_of : (c : Classed) (k : KeyTable) → IsClassed c → IsExplored (quotient c) 16777216 k → IsShape c.table.base c.table.tracks (length k.keys) 0
-shape_of c k h e = record {
-  base_low = h.table.shape.base_low;
-  base_high = h.table.shape.base_high;
-  few_letters = h.table.shape.few_letters;
-  some_state = omega (arith, slice_get_within k.keys (slice_index k.starts 0) (list_at (quotient c).starts 0) (e.begins 0 (subst (λ n. 0 < n) (sym (length-map c.table.roots (class_key c.classes) ∙ h.table.roots_count)) (pow_pos c.table.tracks))));
-  few_cells = omega (arith, e.within, e.weighs ∙ weigh_classes (quotient c) k.keys (λ x. refl));
-}
-
+-- ---- the table
 pub starts_of : (c : Classed) (k : KeyTable) → IsClassed c → IsExplored (quotient c) 16777216 k → length k.starts ≡ 2 ^ c.table.tracks
 starts_of c k h e = e.starts_count ∙ length-map c.table.roots (class_key c.classes) ∙ h.table.roots_count
 
--- ---- the filled table
-is_table_of : (c : Classed) (k : KeyTable) (u : Kept) → IsExplored (quotient c) 16777216 k → IsFilling c.table k (2 ^ c.table.tracks) (length k.keys * k.width) (length k.keys) u → u.table ≡ table_of c.table k u.table.outs
-unfolding table_of
-is_table_of c k u e f = same_table u.table (table_of c.table k u.table.outs) f.shape.base_is f.shape.tracks_are
-    (same_lists u.table.roots k.starts (roots_count ∙ sym f.shape.starts) (λ i lt. f.roots_filled.each i (subst (λ n. i < n) roots_count lt)))
-    (same_lists u.table.rows k.rows (rows_count ∙ sym e.rows_count) (λ i lt. f.rows_filled.each i (subst (λ n. i < n) rows_count lt)))
-    refl
-    (no_frac_rows u.table f.shape.table f.shape.diagram)
-    f.shape.diagram
-  where
-    roots_count : length u.table.roots ≡ 2 ^ c.table.tracks
-    roots_count = f.shape.table.roots_count ∙ ap (λ n. 2 ^ n) f.shape.tracks_are
+made_of : (c : Classed) (k : KeyTable) → IsClassed c → IsExplored (quotient c) 16777216 k → Made c k (answered (class_says c.table) k.keys)
+made_of c k h e = record { classed = h; explored = e; outs_are = refl }
 
-    widths : letters u.table ≡ k.width
-    widths = ap (λ b. b ^ u.table.tracks) f.shape.base_is ∙ ap (λ n. c.table.base ^ n) f.shape.tracks_are ∙ sym f.shape.width
+pub quotient_canonical : (c : Classed) (k : KeyTable) (u : Table) → IsClassed c → IsExplored (quotient c) 16777216 k → IsTable u → u ≡ laid c.table.base c.table.tracks k (answered (class_says c.table) k.keys) → IsCanonical u
+quotient_canonical c k u h e valid is = subst IsCanonical (sym is) (canonical_of c k (answered (class_says c.table) k.keys) (made_of c k h e) (subst IsTable is valid))
 
-    rows_count : length u.table.rows ≡ length k.keys * k.width
-    rows_count = f.shape.table.rows_count ∙ ap (λ n. n * letters u.table) f.shape.states ∙ ap (λ w. length k.keys * w) widths
-
-made_of : (c : Classed) (k : KeyTable) (u : Kept) → IsClassed c → IsExplored (quotient c) 16777216 k → IsFilling c.table k (2 ^ c.table.tracks) (length k.keys * k.width) (length k.keys) u → Made c k u.table.outs
-made_of c k u h e f = record { classed = h; explored = e; count = f.shape.states; filled = f.outs_filled }
-
-pub quotient_canonical : (c : Classed) (k : KeyTable) (u : Kept) → IsClassed c → IsExplored (quotient c) 16777216 k → IsFilling c.table k (2 ^ c.table.tracks) (length k.keys * k.width) (length k.keys) u → IsCanonical u.table
-quotient_canonical c k u h e f = let is : u.table ≡ table_of c.table k u.table.outs = is_table_of c k u e f in
-    subst IsCanonical (sym is) (canonical_of c k u.table.outs (made_of c k u h e f) (subst IsTable is f.shape.table))
-
-pub quotient_words : (c : Classed) (k : KeyTable) (u : Kept) → IsClassed c → IsExplored (quotient c) 16777216 k → IsFilling c.table k (2 ^ c.table.tracks) (length k.keys * k.width) (length k.keys) u → AcceptSameWords c.table u.table
-quotient_words c k u h e f = subst (λ v. AcceptSameWords c.table v) (sym (is_table_of c k u e f)) (words c k u.table.outs (made_of c k u h e f))
+pub quotient_words : (c : Classed) (k : KeyTable) (u : Table) → IsClassed c → IsExplored (quotient c) 16777216 k → u ≡ laid c.table.base c.table.tracks k (answered (class_says c.table) k.keys) → AcceptSameWords c.table u
+quotient_words c k u h e is = subst (λ v. AcceptSameWords c.table v) (sym is) (words c k (answered (class_says c.table) k.keys) (made_of c k h e))

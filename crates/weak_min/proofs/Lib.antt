@@ -1,4 +1,3 @@
 pub mod ClassRuns
 pub mod Explorations
-pub mod FillingSteps
 pub mod Comparing

@@ -32,3 +32,7 @@ quotient c = record {
   weight = λ _. 0;
   is_proper = is_state (ints c.table);
 }
+
+-- whether the output of a class is yes: that of the state that names it
+abbrev pub class_says : Table → List ℕ → Bool
+class_says t k = nat_eq (slice_index t.outs (slice_index k 0)) 1

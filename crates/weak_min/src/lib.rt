@@ -4,7 +4,7 @@
 mod canon;
 mod comparison;
 mod copies;
-mod filling;
+mod outputs;
 mod quotient;
 
 pub use canon::{Canon, canonical};

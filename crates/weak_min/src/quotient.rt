@@ -8,7 +8,7 @@ ghost use Rattle.canonical_laws.specs.Behaviour.{AreClasses};
 ghost use Rattle.canonical_laws.specs.Canonical.{IsCanonical, AcceptSameWords};
 ghost use Rattle.weak_min.specs.Quotients.{quotient, IsClassed};
 
-use crate::filling::{Plan, fill_outs};
+use crate::outputs::ClassOutputs;
 use lash_io::Memory;
 use std::alloc::Global;
 use std::marker::Model;
@@ -167,14 +167,9 @@ pub fn quotient_table<C: Cells>(
         Ok(found) => found,
         Err(Memory) => return Err(Memory),
     };
-    let mut made = match Table::of_explored(alloc, table.base(), table.tracks(), &found) {
-        Ok(made) => made,
-        Err(Memory) => return Err(Memory),
-    };
-    let plan = Plan {
-        table,
-        found: &found,
-    };
-    fill_outs(&plan, &mut made);
-    Ok(made)
+    let outputs = ClassOutputs { table };
+    match Table::of_explored(alloc, table.base(), table.tracks(), &found, &outputs) {
+        Ok(made) => Ok(made),
+        Err(Memory) => Err(Memory),
+    }
 }

@@ -1,44 +1,48 @@
-use Rattle.std.proofs.Common.{◌∙◌, ap, sym, subst, ◌^◌, length}
-use Rattle.lash_model.specs.Tables.{IsShape}
+use Rattle.std.proofs.Common.{arith, ◌∙◌, ap}
 use Rattle.lash_model.specs.Sets.{set_of}
 use Rattle.product_ops.specs.Pairs.{left_operand, right_operand}
-use Rattle.product_ops.proofs.PairRuns.{answers}
+use Rattle.step_tables.specs.Kept.{Kept}
+use Rattle.product_ops.proofs.PairRuns.{answers, starts_of, pair_table}
 use Rattle.product_ops.proofs.Joining.{reads_picked, product_stands}
-use Rattle.product_ops.proofs.LayingOut.{shape_of, starts_of, pair_table}
 use Rattle.product_ops.proofs.synchronous.product.Goals as goal
 
-pub lay_out-requires-clause-shape : goal.lay_out-requires-clause-shape
-lay_out-requires-clause-shape g c =
-    subst (λ r. IsShape r c.tracks.result (length c.in-Ok.found.keys) 0) (sym c.base.ensures)
-    (subst (λ n. IsShape c.args.left.now.table.base n (length c.in-Ok.found.keys) 0) (sym c.tracks.ensures)
-    (shape_of c.args.left.now.table c.args.right.now.table c.args.map.now c.args.limit c.in-Ok.found c.in-Ok.ensures.operands.left_is c.requires.limit c.in-Ok.ensures.explored))
+pub of_explored-requires-clause-few : goal.of_explored-requires-clause-few
+of_explored-requires-clause-few g c = rw (c.base.ensures, c.tracks.ensures) c.requires.letters
 
-pub lay_out-requires-clause-starts : goal.lay_out-requires-clause-starts
-lay_out-requires-clause-starts g c = starts_of c.args.left.now.table c.args.right.now.table c.args.map.now c.args.limit c.in-Ok.found c.in-Ok.ensures.explored ∙ ap (λ n. 2 ^ n) (sym c.tracks.ensures)
+pub of_explored-requires-clause-width : goal.of_explored-requires-clause-width
+of_explored-requires-clause-width g c = rw (c.base.ensures, c.tracks.ensures) c.in-Ok.ensures.explored.width
 
-pub returns-clause-pairs : goal.returns-clause-pairs
-returns-clause-pairs g c = pair_table c.args.op c.args.left.now.table c.args.right.now.table c.args.map.now c.args.limit c.base.result c.tracks.result c.in-Ok.found c.fill_outs.new.made c.in-Ok.ensures.explored c.fill_outs.ensures.filled
+pub of_explored-requires-clause-starts : goal.of_explored-requires-clause-starts
+of_explored-requires-clause-starts g c = rw c.tracks.ensures (starts_of c.args.left.now.table c.args.right.now.table c.args.map.now c.args.limit c.in-Ok.found c.in-Ok.ensures.explored)
 
-pub returns-clause-words : goal.returns-clause-words
-returns-clause-words g c =
-    answers c.args.op c.args.left.now.table c.args.right.now.table c.args.map.now c.args.limit c.fill_outs.new.made.table
-    (pair_table c.args.op c.args.left.now.table c.args.right.now.table c.args.map.now c.args.limit c.base.result c.tracks.result c.in-Ok.found c.fill_outs.new.made c.in-Ok.ensures.explored c.fill_outs.ensures.filled)
-    (c.fill_outs.ensures.filled.laid.shape.base_is ∙ c.base.ensures)
-    (c.fill_outs.ensures.filled.laid.shape.tracks_are ∙ c.tracks.ensures)
+pub of_explored-requires-clause-cells : goal.of_explored-requires-clause-cells
+of_explored-requires-clause-cells g c = omega (arith, c.in-Ok.ensures.explored.within, c.requires.limit)
 
-pub returns-clause-stands : goal.returns-clause-stands
-returns-clause-stands g c = λ f h s u p q.
-    product_stands c.args.op c.args.left.now.table c.args.right.now.table c.args.map.now c.fill_outs.new.made.table
+pub returns-in-Ok-of_explored-clause-pairs : goal.returns-in-Ok-of_explored-clause-pairs
+returns-in-Ok-of_explored-clause-pairs g c = pair_table c.args.op c.args.left.now.table c.args.right.now.table c.args.map.now c.args.limit c.base.result c.tracks.result c.in-Ok.found c.in-Ok-of_explored.made c.in-Ok.ensures.explored c.in-Ok-of_explored.ensures.laid
+
+pub returns-in-Ok-of_explored-clause-words : goal.returns-in-Ok-of_explored-clause-words
+returns-in-Ok-of_explored-clause-words g c =
+    answers c.args.op c.args.left.now.table c.args.right.now.table c.args.map.now c.args.limit c.in-Ok-of_explored.made.table
+    (pair_table c.args.op c.args.left.now.table c.args.right.now.table c.args.map.now c.args.limit c.base.result c.tracks.result c.in-Ok.found c.in-Ok-of_explored.made c.in-Ok.ensures.explored c.in-Ok-of_explored.ensures.laid)
+    (ap (λ (v : Kept). v.table.base) c.in-Ok-of_explored.ensures.laid ∙ c.base.ensures)
+    (ap (λ (v : Kept). v.table.tracks) c.in-Ok-of_explored.ensures.laid ∙ c.tracks.ensures)
+
+pub returns-in-Ok-of_explored-clause-stands : goal.returns-in-Ok-of_explored-clause-stands
+returns-in-Ok-of_explored-clause-stands g c = λ f h s u p q.
+    let base = ap (λ (v : Kept). v.table.base) c.in-Ok-of_explored.ensures.laid ∙ c.base.ensures in
+    let tracks = ap (λ (v : Kept). v.table.tracks) c.in-Ok-of_explored.ensures.laid ∙ c.tracks.ensures in
+    product_stands c.args.op c.args.left.now.table c.args.right.now.table c.args.map.now c.in-Ok-of_explored.made.table
     (reads_picked (left_operand c.args.left.now.table c.args.map.now) c.in-Ok.ensures.operands.left_is)
     (reads_picked (right_operand c.args.right.now.table c.args.map.now) c.in-Ok.ensures.operands.right_is)
     c.requires.base
-    (c.fill_outs.ensures.filled.laid.shape.base_is ∙ c.base.ensures)
-    (c.fill_outs.ensures.filled.laid.shape.tracks_are ∙ c.tracks.ensures)
-    c.fill_outs.ensures.filled.laid.shape.diagram
-    (answers c.args.op c.args.left.now.table c.args.right.now.table c.args.map.now c.args.limit c.fill_outs.new.made.table
-    (pair_table c.args.op c.args.left.now.table c.args.right.now.table c.args.map.now c.args.limit c.base.result c.tracks.result c.in-Ok.found c.fill_outs.new.made c.in-Ok.ensures.explored c.fill_outs.ensures.filled)
-    (c.fill_outs.ensures.filled.laid.shape.base_is ∙ c.base.ensures)
-    (c.fill_outs.ensures.filled.laid.shape.tracks_are ∙ c.tracks.ensures))
+    base
+    tracks
+    (ap (λ (v : Kept). v.table.colours) c.in-Ok-of_explored.ensures.laid)
+    (answers c.args.op c.args.left.now.table c.args.right.now.table c.args.map.now c.args.limit c.in-Ok-of_explored.made.table
+    (pair_table c.args.op c.args.left.now.table c.args.right.now.table c.args.map.now c.args.limit c.base.result c.tracks.result c.in-Ok.found c.in-Ok-of_explored.made c.in-Ok.ensures.explored c.in-Ok-of_explored.ensures.laid)
+    base
+    tracks)
     (set_of f s)
     (set_of h u)
     p

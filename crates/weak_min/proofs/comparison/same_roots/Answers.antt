@@ -1,5 +1,5 @@
 use Rattle.std.proofs.Common.{rules, arith, ap, ◌^◌}
-use Rattle.weak_min.proofs.FillingSteps.{few_signs}
+use Rattle.weak_min.proofs.ClassRuns.{few_signs}
 use Rattle.weak_min.proofs.Comparing.{equal_roots}
 use Rattle.weak_min.proofs.comparison.same_roots.Goals as goal
 
