@@ -2,7 +2,7 @@
 //! standing for a set.
 #![tactic(auto)]
 
-ghost use Rattle.std.specs.Prelude.{◌≡◌, ℕ, ◌+◌, ◌*◌, ◌^◌, ◌<◌, ◌≤◌, List, [], ◌∷◌, ◌++◌, length, ℤ, pos, negsuc, ◌+ℤ◌, ◌*ℤ◌};
+ghost use Rattle.std.specs.Prelude.{◌≡◌, ℕ, ◌+◌, ◌*◌, ◌^◌, ◌<◌, ◌≤◌, List, [], ◌∷◌, ◌++◌, length, slice_index, ℤ, pos, negsuc, ◌+ℤ◌, ◌*ℤ◌};
 ghost use Rattle.std.specs.List.{AllByRecursion};
 ghost use Rattle.integer_laws.specs.Differences.{diff};
 ghost use Rattle.integer_laws.specs.Runs.{run, gain};
@@ -12,6 +12,8 @@ ghost use Rattle.lash_model.specs.Lassos.{Lasso, numerator, denominator};
 ghost use Rattle.lash_model.specs.Formulas.{Sort, Formula};
 ghost use Rattle.lash_model.specs.Meaning.{Solves};
 ghost use Rattle.lash_model.specs.Sets.{IsOfFractions, KeepsScale, set_of, bound_at, bound_by_fraction};
+ghost use Rattle.lash_model.specs.Tables.{Table, letters};
+ghost use Rattle.lash_model.specs.Acceptance.{int_state};
 
 /// The expansion of a letter is the one list of so many digits below the base whose number is the letter.
 pub fn letters_are_their_digits()
@@ -67,4 +69,10 @@ pub fn placed_sets_are_of_fractions()
 pub fn bound_sets_are_of_fractions()
     ensures whole { (f : Formula) (placed : List ℤ → List ℤ) (track : ℕ) → IsOfFractions (set_of f placed) → IsOfFractions (bound_at track (set_of f placed)) }
     ensures fraction { (f : Formula) (placed : List ℤ → List ℤ) (track : ℕ) → IsOfFractions (set_of f placed) → IsOfFractions (bound_by_fraction track (set_of f placed)) }
+{}
+
+/// The integer state after no letter is the root of the sign vector, and a letter at the end leads on by the row of the state before it.
+pub fn states_are_read_in_turn()
+    ensures root { (t : Table) (sign : ℕ) → int_state t sign [] ≡ slice_index t.roots sign }
+    ensures letter { (t : Table) (sign : ℕ) (w : List ℕ) (l : ℕ) → int_state t sign (w ++ l ∷ []) ≡ slice_index t.rows (int_state t sign w * letters t + l) }
 {}
