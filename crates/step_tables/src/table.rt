@@ -230,6 +230,13 @@ impl<C: Cells> Table<C> {
         self.outs.get(state as usize)
     }
 
+    /// The rows of the integer states.
+    pub fn rows(&self) -> &C
+        ensures { C.items result.now ≡ self.now.table.rows }
+    {
+        &self.rows
+    }
+
     /// The rows of the integer states, where they stand as they are.
     pub fn lent_rows(&self) -> Option<&[u32]>
         ensures { IfSome result (λ s. s.now ≡ self.now.table.rows) }

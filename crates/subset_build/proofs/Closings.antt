@@ -1,5 +1,5 @@
 -- Closing under letters over a sign letter: marking a state, the turns of the loops, and the closed set.
-use Rattle.std.proofs.Common.{◌≡◌, ℕ, zero, suc, ◌+◌, ◌*◌, ◌^◌, ◌<◌, ◌≤◌, Bool, true, false, cond, List, [], ◌∷◌, ◌++◌, length, map, arith, refl, ◌∙◌, sym, ap, subst, inl, inr}
+use Rattle.std.proofs.Common.{◌≡◌, ℕ, zero, suc, ◌+◌, ◌-◌, ◌*◌, ◌^◌, ◌<◌, ◌≤◌, IsTrue, Bool, true, false, cond, List, [], ◌∷◌, ◌++◌, length, map, arith, refl, ◌∙◌, sym, ap, subst, inl, inr}
 use Rattle.std.specs.Prelude.{slice_index, slice_set, All, Contains, count_by, sum_by, ◌⊎◌}
 use Rattle.std.specs.List.{slice_index_or, AllByRecursion}
 use Rattle.std.proofs.Math.Nat.{pow-le-pow_right}
@@ -13,11 +13,12 @@ use Rattle.graph_laws.proofs.Joining.{go-append}
 use Rattle.canonical_laws.proofs.Diagrams.{read_below}
 use Rattle.lash_model.specs.Letters.{sign_letter}
 use Rattle.lash_model.specs.Tables.{Table, letters, ints, IsTable}
-use Rattle.subset_build.specs.Projection.{with_digit, kept, root_over, target, IsSignReached, IsRisingSet, AreStartSets}
+use Rattle.subset_build.specs.Projection.{with_digit, kept, root_over, int_transitions, target, IsSignReached, IsRisingSet, AreStartSets, is_rising_in}
+use Rattle.subset_build.specs.Subsets.{Forgetting, IsProjected}
 use Rattle.subset_build.specs.Closing.{Marking, is_marked, IsMarking, met_by, met_state, none_marked, marked_states, AreOver, IsClosing, IsFollowing, AreSetsUpto}
 use Rattle.subset_build.proofs.KeptLetters.{few_signs, with_digit_below, sign_letter_below}
 use Rattle.subset_build.proofs.RisingSets.{filter_range, same_set}
-use Rattle.subset_build.proofs.Targets.{target_below}
+use Rattle.subset_build.proofs.Targets.{int_moves, target_below, proper_set}
 
 -- ---- marking a state
 marked_below : (m : Marking) (q : ℕ) → is_marked m q ≡ true → q < length m.marked
@@ -89,13 +90,13 @@ marking_more marked states q h unmarked lt = record {
 pub root_reached : (t : Table) (track sign b q : ℕ) → b < 2 → q ≡ root_over t track sign b → IsSignReached t track sign q
 root_reached t track sign b q lt e = record { bit = b; word = []; bit_below = lt; digits_in = All-nil (λ d. d < t.base); leads = e }
 
-pub target_reached : (t : Table) (track sign x d q : ℕ) → IsSignReached t track sign x → d < t.base → q ≡ target t track (sign_letter t.base (kept t) sign) x d → IsSignReached t track sign q
+pub target_reached : (t : Table) (track sign x d q : ℕ) → IsSignReached t track sign x → d < t.base → q ≡ target (int_transitions t) track (sign_letter t.base (kept t) sign) x d → IsSignReached t track sign q
 target_reached t track sign x d q h lt e = record {
   bit = h.bit;
   word = h.word ++ d ∷ [];
   bit_below = h.bit_below;
   digits_in = All-push (λ y. y < t.base) h.word d h.digits_in lt;
-  leads = e ∙ ap (λ y. target t track z y d) h.leads ∙ sym (go-append t.rows (letters t) start (map over h.word) (over d ∷ [])) ∙ ap (go t.rows (letters t) start) (sym (map-append over h.word (d ∷ [])));
+  leads = e ∙ ap (λ y. target (int_transitions t) track z y d) h.leads ∙ sym (go-append t.rows (letters t) start (map over h.word) (over d ∷ [])) ∙ ap (go t.rows (letters t) start) (sym (map-append over h.word (d ∷ [])));
 }
   where
     z : ℕ
@@ -114,9 +115,9 @@ met_closing t track sign roots at some q m h r = record {
   sound = all_met (IsSignReached t track sign) (is_marked m q) m q h.sound r;
   begun = λ b lt. still_marked (is_marked m q) m q (root_over t track sign b) (h.begun b lt);
   upto = omega (arith, h.upto, states_longer (is_marked m q) m q);
-  followed = λ i d lt below. subst (λ x. is_marked (met_state m q) (target t track z x d) ≡ true) (sym (states_kept (is_marked m q) m q i (omega (arith, lt, h.upto)))) (still_marked (is_marked m q) m q (target t track z (slice_index m.states i) d) (h.followed i d lt below));
+  followed = λ i d lt below. subst (λ x. is_marked (met_state m q) (target (int_transitions t) track z x d) ≡ true) (sym (states_kept (is_marked m q) m q i (omega (arith, lt, h.upto)))) (still_marked (is_marked m q) m q (target (int_transitions t) track z (slice_index m.states i) d) (h.followed i d lt below));
   inside = λ lt. omega (arith, h.inside lt, states_longer (is_marked m q) m q);
-  following = λ d lt. subst (λ x. is_marked (met_state m q) (target t track z x d) ≡ true) (sym (states_kept (is_marked m q) m q at (h.inside (omega (arith, lt))))) (still_marked (is_marked m q) m q (target t track z (slice_index m.states at) d) (h.following d lt));
+  following = λ d lt. subst (λ x. is_marked (met_state m q) (target (int_transitions t) track z x d) ≡ true) (sym (states_kept (is_marked m q) m q at (h.inside (omega (arith, lt))))) (still_marked (is_marked m q) m q (target (int_transitions t) track z (slice_index m.states at) d) (h.following d lt));
 }
   where
     z : ℕ
@@ -153,7 +154,7 @@ root_more t track sign b q m h lt below e = record {
     k = met_closing t track sign b 0 0 q m h (root_reached t track sign b q lt e)
 
 -- a digit more
-pub digit_more : (t : Table) (track sign at d q : ℕ) (m : Marking) → IsClosing t track sign 2 at d m → at < length m.states → d < t.base → q < ints t → q ≡ target t track (sign_letter t.base (kept t) sign) (slice_index m.states at) d → IsClosing t track sign 2 at (d + 1) (met_state m q)
+pub digit_more : (t : Table) (track sign at d q : ℕ) (m : Marking) → IsClosing t track sign 2 at d m → at < length m.states → d < t.base → q < ints t → q ≡ target (int_transitions t) track (sign_letter t.base (kept t) sign) (slice_index m.states at) d → IsClosing t track sign 2 at (d + 1) (met_state m q)
 digit_more t track sign at d q m h inside lt below e = record {
   count = k.count;
   sound = k.sound;
@@ -173,8 +174,8 @@ digit_more t track sign at d q m h inside lt below e = record {
     k : IsClosing t track sign 2 at d (met_state m q)
     k = met_closing t track sign 2 at d q m h (target_reached t track sign (slice_index m.states at) d q (h.sound at 0 inside) lt e)
 
-    moved : (c : ℕ) → d ≡ c → q ≡ target t track z (slice_index (met_state m q).states at) c
-    moved c same = e ∙ ap (λ x. target t track z x d) (sym (states_kept (is_marked m q) m q at inside)) ∙ ap (target t track z (slice_index (met_state m q).states at)) same
+    moved : (c : ℕ) → d ≡ c → q ≡ target (int_transitions t) track z (slice_index (met_state m q).states at) c
+    moved c same = e ∙ ap (λ x. target (int_transitions t) track z x d) (sym (states_kept (is_marked m q) m q at inside)) ∙ ap (target (int_transitions t) track z (slice_index (met_state m q).states at)) same
 
 -- a state more
 pub state_more : (t : Table) (track sign at : ℕ) (m : Marking) → IsClosing t track sign 2 at t.base m → at < length m.states → IsClosing t track sign 2 (at + 1) 0 m
@@ -185,7 +186,7 @@ state_more t track sign at m h inside = record {
   upto = omega (arith, inside);
   followed = λ i d lt below. elim (cases_lt i at) [
     | inl before ↦ h.followed i d before below
-    | inr last ↦ let same : at ≡ i = omega (arith, lt, last) in subst (λ j. is_marked m (target t track (sign_letter t.base (kept t) sign) (slice_index m.states j) d) ≡ true) same (h.following d below)
+    | inr last ↦ let same : at ≡ i = omega (arith, lt, last) in subst (λ j. is_marked m (target (int_transitions t) track (sign_letter t.base (kept t) sign) (slice_index m.states j) d) ≡ true) same (h.following d below)
   ];
   inside = λ lt. absurd (omega (arith, lt));
   following = λ d lt. absurd (omega (arith, lt));
@@ -194,10 +195,10 @@ state_more t track sign at m h inside = record {
 -- ---- the closed set
 word_marked : (t : Table) (track sign : ℕ) (m : Marking) → IsMarking m → IsClosing t track sign 2 (length m.states) 0 m → (x : ℕ) (word : List ℕ) → is_marked m x ≡ true → AllByRecursion (λ d. d < t.base) word → is_marked m (go t.rows (letters t) x (map (with_digit t.base (kept t) track (sign_letter t.base (kept t) sign)) word)) ≡ true
 word_marked t track sign m k h x [] e a = e
-word_marked t track sign m k h x (d ∷ word) e a = word_marked t track sign m k h (target t track (sign_letter t.base (kept t) sign) x d) word (followed (k.found x e)) a.1
+word_marked t track sign m k h x (d ∷ word) e a = word_marked t track sign m k h (target (int_transitions t) track (sign_letter t.base (kept t) sign) x d) word (followed (k.found x e)) a.1
   where
-    followed : Contains m.states x → is_marked m (target t track (sign_letter t.base (kept t) sign) x d) ≡ true
-    followed c = subst (λ y. is_marked m (target t track (sign_letter t.base (kept t) sign) y d) ≡ true) (get_or_default m.states c.0 0 x c.1 ∙ c.2) (h.followed c.0 d c.1 a.0)
+    followed : Contains m.states x → is_marked m (target (int_transitions t) track (sign_letter t.base (kept t) sign) x d) ≡ true
+    followed c = subst (λ y. is_marked m (target (int_transitions t) track (sign_letter t.base (kept t) sign) y d) ≡ true) (get_or_default m.states c.0 0 x c.1 ∙ c.2) (h.followed c.0 d c.1 a.0)
 
 pub closed : (t : Table) (track sign : ℕ) (m : Marking) → IsMarking m → IsClosing t track sign 2 (length m.states) 0 m → IsRisingSet (IsSignReached t track sign) (marked_states m)
 closed t track sign m k h = same_set (λ q. (q < length m.marked) × (is_marked m q ≡ true)) (IsSignReached t track sign) (marked_states m)
@@ -221,7 +222,7 @@ met_root t track sign first stride b root q m over lt h is below e = root_more t
 
 pub met_target : (t : Table) (track sign at state first stride d letter q : ℕ) (m : Marking) → AreOver t.base (kept t) track (sign_letter t.base (kept t) sign) first stride → d < t.base → IsFollowing t track sign at state d m → letter ≡ first + d * stride → q < ints t → q ≡ slice_index t.rows (state * letters t + letter) → IsFollowing t track sign at state (d + 1) (met_state m q)
 met_target t track sign at state first stride d letter q m over lt h is below e = record {
-  closing = digit_more t track sign at d q m h.closing h.within lt below (e ∙ ap (λ l. slice_index t.rows (state * letters t + l)) (is ∙ over.each d lt) ∙ ap (λ x. target t track (sign_letter t.base (kept t) sign) x d) h.state_is);
+  closing = digit_more t track sign at d q m h.closing h.within lt below (e ∙ ap (λ l. slice_index t.rows (state * letters t + l)) (is ∙ over.each d lt) ∙ ap (λ x. target (int_transitions t) track (sign_letter t.base (kept t) sign) x d) h.state_is);
   within = omega (arith, h.within, states_longer (is_marked m q) m q);
   state_is = h.state_is ∙ sym (states_kept (is_marked m q) m q at h.within);
 }
@@ -270,4 +271,16 @@ reached_below t track sign q h lt small r = subst (λ x. x < ints t) (sym r.lead
 
     walk : (x : ℕ) (word : List ℕ) → x < ints t → AllByRecursion (λ d. d < t.base) word → go t.rows (letters t) x (map (with_digit t.base (kept t) track z) word) < ints t
     walk x [] inside a = inside
-    walk x (d ∷ word) inside a = walk (target t track z x d) word (target_below t track z x d h lt (sign_letter_below t.base (kept t) sign h.shape.base_low small) inside a.0) a.1
+    walk x (d ∷ word) inside a = walk (target (int_transitions t) track z x d) word (target_below (int_transitions t) track z x d (int_moves t h) lt (sign_letter_below t.base (kept t) sign h.shape.base_low small) inside a.0) a.1
+
+-- the machine of the sets, from what a table and its start sets give
+pub projected : (t : Table) (track : ℕ) (sets : List (List ℕ)) (width base tracks states : ℕ) (rows : List ℕ) (f : Forgetting) → IsTable t → track < t.tracks → AreStartSets t track sets → f ≡ record { moves = record { base = base; tracks = tracks; rows = rows; states = states }; track = track } → width ≡ base ^ (tracks - 1) → base ≡ t.base → tracks ≡ t.tracks → rows ≡ t.rows → states ≡ ints t → IsProjected width (record { moves = f.moves; track = f.track; sets = sets })
+projected t track sets width base tracks states rows f h lt s is width_is base_is tracks_are rows_are states_are = rw (is, width_is, base_is, tracks_are, rows_are, states_are) here
+  where
+    proper : (k : ℕ) (d : List ℕ) → k < length sets → IsTrue (is_rising_in 0 (ints t) (slice_index_or sets k d))
+    proper k d inside =
+        let at : k < 2 ^ kept t = subst (λ n. k < n) s.count inside in
+        subst (λ x. is_rising_in 0 (ints t) x ≡ true) (get_or_default sets k [] d inside) (proper_set (IsSignReached t track k) (ints t) (list_at sets k) (s.each k at) (λ q r. reached_below t track k q h lt at r))
+
+    here : IsProjected (t.base ^ (t.tracks - 1)) (record { moves = int_transitions t; track = track; sets = sets })
+    here = record { width_is = refl; few = omega (arith, s.count, few_kept_signs t h); proper = proper }

@@ -15,9 +15,9 @@ use Rattle.graph_laws.proofs.Joining.{go-append}
 use Rattle.lash_model.specs.Letters.{sign_letter}
 use Rattle.lash_model.specs.Tables.{Table, letters, ints, IsTable}
 use Rattle.lash_model.specs.Acceptance.{int_state, accepts_word}
-use Rattle.subset_build.specs.Projection.{with_digit, kept, root_over, target, IsSignReached, AreStartSets, step_of_set, subsets, out_of_set, IsSubsetTable, woven, IsAcceptedOver, AcceptsSome}
+use Rattle.subset_build.specs.Projection.{with_digit, kept, root_over, int_transitions, target, IsSignReached, AreStartSets, step_of_set, subsets, out_of_set, IsSubsetTable, woven, IsAcceptedOver, AcceptsSome}
 use Rattle.subset_build.proofs.Closings.{reached_below}
-use Rattle.subset_build.proofs.Targets.{IsTargetOf, target_below, step_set}
+use Rattle.subset_build.proofs.Targets.{int_moves, IsTargetOf, target_below, step_set}
 
 -- a member goes to the state by a word of kept letters and some digits
 record IsLedBy (t : Table) (track : ℕ) (set w : List ℕ) (q : ℕ) : Type 0 where
@@ -29,18 +29,18 @@ record IsLedBy (t : Table) (track : ℕ) (set w : List ℕ) (q : ℕ) : Type 0 w
   leads : q ≡ go t.rows (letters t) source (woven t.base (kept t) track w word)
 
 -- the set that a set goes to is of states
-step_below : (t : Table) (track l : ℕ) (set : List ℕ) → IsTable t → track < t.tracks → l < t.base ^ kept t → All (λ q. q < ints t) set → All (λ q. q < ints t) (step_of_set t track set l)
+step_below : (t : Table) (track l : ℕ) (set : List ℕ) → IsTable t → track < t.tracks → l < t.base ^ kept t → All (λ q. q < ints t) set → All (λ q. q < ints t) (step_of_set (int_transitions t) track set l)
 step_below t track l set h lt small below k d inside =
-    let r = (step_set t track l set h lt small below).sound k d inside in
-    subst (λ x. x < ints t) r.leads (target_below t track l r.source r.digit h lt small (All-contains (λ q. q < ints t) set r.source below r.member) r.digit_below)
+    let r = (step_set (int_transitions t) track l set (int_moves t h) lt small below).sound k d inside in
+    subst (λ x. x < ints t) r.leads (target_below (int_transitions t) track l r.source r.digit (int_moves t h) lt small (All-contains (λ q. q < ints t) set r.source below r.member) r.digit_below)
 
-led_member : (t : Table) (track : ℕ) (set w : List ℕ) (q : ℕ) → IsTable t → track < t.tracks → AllByRecursion (λ l. l < t.base ^ kept t) w → All (λ q. q < ints t) set → Contains (led (step_of_set t track) set w) q → IsLedBy t track set w q
+led_member : (t : Table) (track : ℕ) (set w : List ℕ) (q : ℕ) → IsTable t → track < t.tracks → AllByRecursion (λ l. l < t.base ^ kept t) w → All (λ q. q < ints t) set → Contains (led (step_of_set (int_transitions t) track) set w) q → IsLedBy t track set w q
 led_member t track set [] q h lt a below c = record { source = q; word = []; member = c; digits_in = tt; count = refl; leads = refl }
-led_member t track set (l ∷ w) q h lt a below c = from (led_member t track (step_of_set t track set l) w q h lt a.1 (step_below t track l set h lt a.0 below) c)
+led_member t track set (l ∷ w) q h lt a below c = from (led_member t track (step_of_set (int_transitions t) track set l) w q h lt a.1 (step_below t track l set h lt a.0 below) c)
   where
-    from : IsLedBy t track (step_of_set t track set l) w q → IsLedBy t track set (l ∷ w) q
+    from : IsLedBy t track (step_of_set (int_transitions t) track set l) w q → IsLedBy t track set (l ∷ w) q
     from r =
-        let s : IsTargetOf t track l set r.source = All-contains (IsTargetOf t track l set) (step_of_set t track set l) r.source (step_set t track l set h lt a.0 below).sound r.member in
+        let s : IsTargetOf (int_transitions t) track l set r.source = All-contains (IsTargetOf (int_transitions t) track l set) (step_of_set (int_transitions t) track set l) r.source (step_set (int_transitions t) track l set (int_moves t h) lt a.0 below).sound r.member in
         record {
           source = s.source;
           word = s.digit ∷ r.word;
@@ -50,11 +50,11 @@ led_member t track set (l ∷ w) q h lt a below c = from (led_member t track (st
           leads = r.leads ∙ ap (λ x. go t.rows (letters t) x (woven t.base (kept t) track w r.word)) (sym s.leads);
         }
 
-member_led : (t : Table) (track : ℕ) (set w : List ℕ) (q source : ℕ) (word : List ℕ) → IsTable t → track < t.tracks → AllByRecursion (λ l. l < t.base ^ kept t) w → All (λ q. q < ints t) set → Contains set source → AllByRecursion (λ d. d < t.base) word → length word ≡ length w → q ≡ go t.rows (letters t) source (woven t.base (kept t) track w word) → Contains (led (step_of_set t track) set w) q
+member_led : (t : Table) (track : ℕ) (set w : List ℕ) (q source : ℕ) (word : List ℕ) → IsTable t → track < t.tracks → AllByRecursion (λ l. l < t.base ^ kept t) w → All (λ q. q < ints t) set → Contains set source → AllByRecursion (λ d. d < t.base) word → length word ≡ length w → q ≡ go t.rows (letters t) source (woven t.base (kept t) track w word) → Contains (led (step_of_set (int_transitions t) track) set w) q
 member_led t track set [] q source word h lt a below c ds e is = subst (Contains set) (sym is) c
 member_led t track set (l ∷ w) q source [] h lt a below c ds e is = absurd (omega (arith, e))
-member_led t track set (l ∷ w) q source (d ∷ word) h lt a below c ds e is = member_led t track (step_of_set t track set l) w q (target t track l source d) word h lt a.1 (step_below t track l set h lt a.0 below)
-    ((step_set t track l set h lt a.0 below).complete (target t track l source d) (record { source = source; digit = d; member = c; digit_below = ds.0; leads = refl }))
+member_led t track set (l ∷ w) q source (d ∷ word) h lt a below c ds e is = member_led t track (step_of_set (int_transitions t) track set l) w q (target (int_transitions t) track l source d) word h lt a.1 (step_below t track l set h lt a.0 below)
+    ((step_set (int_transitions t) track l set (int_moves t h) lt a.0 below).complete (target (int_transitions t) track l source d) (record { source = source; digit = d; member = c; digit_below = ds.0; leads = refl }))
     ds.1 (omega (arith, e)) is
 
 -- ---- sign letters in front
@@ -68,7 +68,7 @@ walk_parts t track sign b ds w es = ap (go t.rows (letters t) (root_over t track
 
 -- the set after a sign vector and a word
 set_after : Table → ℕ → List (List ℕ) → ℕ → List ℕ → List ℕ
-set_after t track sets sign w = led (step_of_set t track) (list_at sets sign) w
+set_after t track sets sign w = led (step_of_set (int_transitions t) track) (list_at sets sign) w
 
 starts_below : (t : Table) (track sign : ℕ) (sets : List (List ℕ)) → IsTable t → track < t.tracks → AreStartSets t track sets → sign < 2 ^ kept t → All (λ q. q < ints t) (list_at sets sign)
 starts_below t track sign sets h lt s small k d inside = reached_below t track sign (slice_index_or (list_at sets sign) k d) h lt small ((s.each sign small).sound k d inside)
@@ -124,7 +124,7 @@ member_from_accepted t track sign sets w h lt s small a o = (state, inside, subs
     reached : IsSignReached t track sign source
     reached = record { bit = o.bit; word = front; bit_below = o.bit_below; digits_in = All-take (λ d. d < t.base) o.more o.word o.digits_in; leads = refl }
 
-    inside : Contains (led (step_of_set t track) (list_at sets sign) w) state
+    inside : Contains (led (step_of_set (int_transitions t) track) (list_at sets sign) w) state
     inside = member_led t track (list_at sets sign) w state source rest h lt a (starts_below t track sign sets h lt s small) ((s.each sign small).complete source reached) (recursion_from_All (λ d. d < t.base) rest (All-drop (λ d. d < t.base) o.more o.word o.digits_in)) rest_count refl
 
 -- ---- the output of a set
@@ -154,10 +154,10 @@ answer t track limit u h base tracks sign w lt inside = ap (λ q. nat_eq (slice_
     p : Path
     p = record { start = sign; word = w }
 
-    valid : IsPath (subsets t track h.sets) p
+    valid : IsPath (subsets (int_transitions t) track h.sets) p
     valid = record { start = subst (λ n. sign < n) (sym h.are_starts.count) lt; letters = inside }
 
-    here : slice_get h.found.keys (position h.found p) ≡ Some (led (step_of_set t track) (list_at h.sets sign) w)
+    here : slice_get h.found.keys (position h.found p) ≡ Some (led (step_of_set (int_transitions t) track) (list_at h.sets sign) w)
     here = h.explored.complete p valid
 
     width : letters u ≡ h.found.width
@@ -166,9 +166,9 @@ answer t track limit u h base tracks sign w lt inside = ap (λ q. nat_eq (slice_
     state : go u.rows (letters u) (slice_index u.roots sign) w ≡ position h.found p
     state = ap (λ n. go u.rows n (slice_index u.roots sign) w) width ∙ ap (λ rows. go rows h.found.width (slice_index u.roots sign) w) h.rows_are ∙ ap (λ roots. go h.found.rows h.found.width (slice_index roots sign) w) h.roots_are
 
-    out : slice_index u.outs (position h.found p) ≡ out_of_set t (led (step_of_set t track) (list_at h.sets sign) w)
-    out = h.outs_are (position h.found p) (slice_get_within h.found.keys (position h.found p) (led (step_of_set t track) (list_at h.sets sign) w) here)
-        ∙ ap (out_of_set t) (get_or_from_slice_get h.found.keys (position h.found p) (led (step_of_set t track) (list_at h.sets sign) w) [] here)
+    out : slice_index u.outs (position h.found p) ≡ out_of_set t (led (step_of_set (int_transitions t) track) (list_at h.sets sign) w)
+    out = h.outs_are (position h.found p) (slice_get_within h.found.keys (position h.found p) (led (step_of_set (int_transitions t) track) (list_at h.sets sign) w) here)
+        ∙ ap (out_of_set t) (get_or_from_slice_get h.found.keys (position h.found p) (led (step_of_set (int_transitions t) track) (list_at h.sets sign) w) [] here)
 
 pub accepts_some : (t : Table) (track limit : ℕ) (u : Table) → IsTable t → track < t.tracks → IsSubsetTable t track limit u → u.base ≡ t.base → u.tracks ≡ kept t → AcceptsSome t track u
 accepts_some t track limit u table lt h base tracks sign w small inside = (λ e. forth (sym said ∙ e), λ o. said ∙ back o)

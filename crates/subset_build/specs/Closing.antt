@@ -4,7 +4,7 @@ use Rattle.std.specs.List.{slice_index_or, range_with_len}
 use Rattle.lash_model.specs.Letters.{sign_letter}
 use Rattle.lash_model.specs.Tables.{Table, ints, IsTable}
 use Rattle.graph_laws.specs.Exploring.{list_at}
-use Rattle.subset_build.specs.Projection.{with_digit, kept, root_over, target, IsSignReached, IsRisingSet}
+use Rattle.subset_build.specs.Projection.{with_digit, kept, root_over, int_transitions, target, IsSignReached, IsRisingSet}
 
 -- the letters over a kept letter, by rising digit: the first one, and what each further digit adds
 pub record AreOver (base count track letter first stride : ℕ) : Type 0 where
@@ -53,9 +53,9 @@ pub record IsClosing (t : Table) (track sign roots at some : ℕ) (m : Marking) 
   pub sound : All (IsSignReached t track sign) m.states
   pub begun : (b : ℕ) → b < roots → is_marked m (root_over t track sign b) ≡ true
   pub upto : at ≤ length m.states
-  pub followed : (i d : ℕ) → i < at → d < t.base → is_marked m (target t track (sign_letter t.base (kept t) sign) (slice_index m.states i) d) ≡ true
+  pub followed : (i d : ℕ) → i < at → d < t.base → is_marked m (target (int_transitions t) track (sign_letter t.base (kept t) sign) (slice_index m.states i) d) ≡ true
   pub inside : 0 < some → at < length m.states
-  pub following : (d : ℕ) → d < some → is_marked m (target t track (sign_letter t.base (kept t) sign) (slice_index m.states at) d) ≡ true
+  pub following : (d : ℕ) → d < some → is_marked m (target (int_transitions t) track (sign_letter t.base (kept t) sign) (slice_index m.states at) d) ≡ true
 
 -- that state is being followed
 pub record IsFollowing (t : Table) (track sign at state some : ℕ) (m : Marking) : Type 0 where

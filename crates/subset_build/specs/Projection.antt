@@ -22,9 +22,20 @@ kept t = t.tracks - 1
 abbrev pub root_over : Table → ℕ → ℕ → ℕ → ℕ
 root_over t track sign b = slice_index t.roots (with_digit 2 (kept t) track sign b)
 
+-- where the states of a part of an automaton go: the base, the number of all tracks, the flat rows of targets, the number of states
+pub record Transitions : Type 0 where
+  pub base : ℕ
+  pub tracks : ℕ
+  pub rows : List ℕ
+  pub states : ℕ
+
+-- of the integer part
+abbrev pub int_transitions : Table → Transitions
+int_transitions t = record { base = t.base; tracks = t.tracks; rows = t.rows; states = ints t }
+
 -- where a state goes on a kept letter and a digit on the track
-abbrev pub target : Table → ℕ → ℕ → ℕ → ℕ → ℕ
-target t track letter q d = slice_index t.rows (q * letters t + with_digit t.base (kept t) track letter d)
+abbrev pub target : Transitions → ℕ → ℕ → ℕ → ℕ → ℕ
+target m track letter q d = slice_index m.rows (q * m.base ^ m.tracks + with_digit m.base (m.tracks - 1) track letter d)
 
 -- a state is reached under a kept sign vector: from a root over it, by letters over its sign letter
 pub record IsSignReached (t : Table) (track sign q : ℕ) : Type 0 where
@@ -46,12 +57,12 @@ pub record AreStartSets (t : Table) (track : ℕ) (sets : List (List ℕ)) : Typ
   pub each : (sign : ℕ) → sign < 2 ^ kept t → IsRisingSet (IsSignReached t track sign) (list_at sets sign)
 
 -- whether some state of a set goes to a state on a kept letter and some digit
-abbrev pub is_target : Table → ℕ → List ℕ → ℕ → ℕ → Bool
-is_target t track set letter q = list_any (λ p. list_any (λ d. nat_eq (target t track letter p d) q) (range_with_len 0 t.base)) set
+abbrev pub is_target : Transitions → ℕ → List ℕ → ℕ → ℕ → Bool
+is_target m track set letter q = list_any (λ p. list_any (λ d. nat_eq (target m track letter p d) q) (range_with_len 0 m.base)) set
 
 -- where a set of states goes on a kept letter, whatever the digit: the rising list of the targets
-abbrev pub step_of_set : Table → ℕ → List ℕ → ℕ → List ℕ
-step_of_set t track set letter = filter (is_target t track set letter) (range_with_len 0 (ints t))
+abbrev pub step_of_set : Transitions → ℕ → List ℕ → ℕ → List ℕ
+step_of_set m track set letter = filter (is_target m track set letter) (range_with_len 0 m.states)
 
 -- whether the entries rise, and are from the first number up to the second
 abbrev pub is_rising_in : ℕ → ℕ → List ℕ → Bool
@@ -59,13 +70,13 @@ is_rising_in low high [] = true
 is_rising_in low high (q ∷ qs) = nat_le low q && (nat_lt q high && is_rising_in (q + 1) high qs)
 
 -- the machine of sets of states: it starts in the start sets, and a set weighs its length
-abbrev pub subsets : Table → ℕ → List (List ℕ) → Steps
-subsets t track sets = record {
-  width = t.base ^ kept t;
+abbrev pub subsets : Transitions → ℕ → List (List ℕ) → Steps
+subsets m track sets = record {
+  width = m.base ^ (m.tracks - 1);
   starts = sets;
-  step = step_of_set t track;
+  step = step_of_set m track;
   weight = λ set. length set;
-  is_proper = is_rising_in 0 (ints t);
+  is_proper = is_rising_in 0 m.states;
 }
 
 -- whether some member's output is yes
@@ -81,7 +92,7 @@ pub record IsSubsetTable (t : Table) (track limit : ℕ) (u : Table) : Type 0 wh
   pub sets : List (List ℕ)
   pub are_starts : AreStartSets t track sets
   pub found : KeyTable
-  pub explored : IsExplored (subsets t track sets) limit found
+  pub explored : IsExplored (subsets (int_transitions t) track sets) limit found
   pub states : ints u ≡ length found.keys
   pub roots_are : u.roots ≡ found.starts
   pub rows_are : u.rows ≡ found.rows
@@ -91,7 +102,7 @@ pub record IsSubsetTable (t : Table) (track limit : ℕ) (u : Table) : Type 0 wh
 pub record IsHeavyProjection (t : Table) (track limit : ℕ) : Type 0 where
   pub sets : List (List ℕ)
   pub are_starts : AreStartSets t track sets
-  pub heavy : IsHeavy (subsets t track sets) limit
+  pub heavy : IsHeavy (subsets (int_transitions t) track sets) limit
 
 -- base, number of kept tracks, track: the kept letters with the digits put in, letter by letter
 abbrev pub woven : ℕ → ℕ → ℕ → List ℕ → List ℕ → List ℕ

@@ -7,12 +7,14 @@ mod laws;
 mod marks;
 mod outputs;
 mod projection;
+mod set_steps;
 mod start_sets;
 mod subsets;
 
 pub use closure::sign_closure;
 pub use laws::{heavy_or_subsets, start_sets_are_unique};
 pub use projection::project_int;
+pub use set_steps::SetSteps;
 pub use start_sets::StartSets;
 
 #[cfg(test)]

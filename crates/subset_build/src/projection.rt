@@ -7,7 +7,7 @@ ghost use Rattle.lash_model.specs.Formulas.{Formula};
 ghost use Rattle.lash_model.specs.Standing.{StandsForWhole};
 ghost use Rattle.lash_model.specs.Tables.{IsTable, IsDiagram};
 ghost use Rattle.lash_model.specs.Sets.{set_of, bound_at};
-ghost use Rattle.subset_build.specs.Projection.{kept, subsets, AreStartSets, IsSubsetTable, IsHeavyProjection, AcceptsSome};
+ghost use Rattle.subset_build.specs.Projection.{kept, int_transitions, subsets, AreStartSets, IsSubsetTable, IsHeavyProjection, AcceptsSome};
 
 use crate::outputs::SetOutputs;
 use crate::subsets::Subsets;
@@ -27,8 +27,8 @@ fn explored<C: Cells>(
     requires track { track < table.now.table.tracks }
     requires starts { AreStartSets table.now.table track starts.now }
     requires limit { limit ≤ 16777216 }
-    ensures explored { IfOk result (λ k. IsExplored (subsets table.now.table track starts.now) limit k) }
-    ensures heavy { IfErr result (λ e. e ≡ BuildError.Heavy → IsHeavy (subsets table.now.table track starts.now) limit) }
+    ensures explored { IfOk result (λ k. IsExplored (subsets (int_transitions table.now.table) track starts.now) limit k) }
+    ensures heavy { IfErr result (λ e. e ≡ BuildError.Heavy → IsHeavy (subsets (int_transitions table.now.table) track starts.now) limit) }
 {
     let _letters = table.letters();
     let mut subsets = Subsets::new(table, track, starts);

@@ -4,7 +4,7 @@ use Rattle.std.specs.List.{dedup}
 use Rattle.std.proofs.lemmas.List.{take_at}
 use Rattle.subset_build.specs.Projection.{IsRisingSet}
 use Rattle.subset_build.proofs.RisingSets.{sorted_set}
-use Rattle.subset_build.proofs.subsets.put_in_order.Goals as goal
+use Rattle.subset_build.proofs.set_steps.put_in_order.Goals as goal
 
 pub returns : goal.returns
 returns c =
