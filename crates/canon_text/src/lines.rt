@@ -9,7 +9,8 @@ use crate::pieces::{put_number_line, put_spaced, put_variable};
 use digit_codes::Base;
 use formula_core::Vars;
 use lash_io::{Block, Failed, Sink};
-use step_tables::{Cells, Table};
+use packed_cells::Cells;
+use step_tables::Table;
 
 /// Puts the names and sorts of the variables, of which there are `count`.
 fn put_variables<K: Sink>(

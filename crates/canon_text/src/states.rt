@@ -8,7 +8,8 @@ ghost use Rattle.lash_io.specs.Blocks.{Passes};
 
 use crate::pieces::{put_answer, put_spaced};
 use lash_io::{Block, Failed, Sink};
-use step_tables::{Cells, Table};
+use packed_cells::Cells;
+use step_tables::Table;
 
 /// Puts an output: yes or no where there are no fraction states, and else one of these.
 fn put_out<C: Cells, K: Sink>(

@@ -9,10 +9,11 @@ use super::*;
 use digit_codes::Base;
 use formula_core::{Sort, Vars};
 use lash_io::{MemSink, Memory};
+use packed_cells::Plain;
 use std::alloc::Global;
 use std::process::Abort;
 use std::test::Fail;
-use step_tables::{Plain, Table};
+use step_tables::Table;
 
 /// The header of one variable x.
 fn header_of(alloc: Global, base: Base, sort: Sort) -> Result<Header, Memory>

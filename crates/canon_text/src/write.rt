@@ -13,7 +13,8 @@ use crate::header::Header;
 use crate::lines::{put_counts, put_heading};
 use crate::states::{put_frac_lines, put_int_lines};
 use lash_io::{Block, Failed, Sink};
-use step_tables::{Cells, Table};
+use packed_cells::Cells;
+use step_tables::Table;
 use weak_min::Canon;
 
 /// Writes the text of a canonical table under a header. As a condition, the base is the table's, there is a variable for each track,

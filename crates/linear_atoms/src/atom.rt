@@ -17,8 +17,9 @@ use crate::thresholds::thresholds;
 use crate::totals::letter_totals;
 use digit_codes::Base;
 use formula_core::Linear;
+use packed_cells::Plain;
 use std::alloc::Global;
-use step_tables::{BuildError, Plain, Table};
+use step_tables::{BuildError, Table};
 
 /// One less.
 fn before(bound: &i128) -> i128

@@ -13,7 +13,8 @@ use crate::kind::AtomKind;
 use crate::totals::digits_total;
 use digit_codes::Base;
 use formula_core::Linear;
-use step_tables::{Plain, Table};
+use packed_cells::Plain;
+use step_tables::Table;
 
 /// What a table is filled from, and the number of its fraction states.
 #[derive(Clone, Copy)]

@@ -8,7 +8,8 @@ ghost use Rattle.lash_model.specs.Sets.{set_of};
 ghost use Rattle.canonical_laws.specs.Canonical.{IsCanonical};
 ghost use Rattle.product_ops.specs.Negation.{negated, AcceptsOthers};
 
-use step_tables::{Cells, Table};
+use packed_cells::Cells;
+use step_tables::Table;
 
 /// Exchanges the outputs of a diagram, yes for no and no for yes: it then accepts exactly what it did not accept before.
 pub fn complement<C: Cells>(table: &mut Table<C>)

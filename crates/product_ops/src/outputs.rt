@@ -5,7 +5,8 @@ ghost use Rattle.product_ops.specs.Pairs.{is_pair, pair_says};
 
 use crate::Op;
 use crate::operation::decide;
-use step_tables::{Answers, Cells, Table};
+use packed_cells::Cells;
+use step_tables::{Answers, Table};
 
 /// The truth function of two diagrams' outputs.
 #[derive(Drop)]

@@ -6,9 +6,10 @@ ghost use Rattle.product_ops.specs.Pairs.{pair, left_operand, right_operand, Are
 use crate::TrackMap;
 use crate::reading::Reader;
 use lash_io::Memory;
+use packed_cells::Cells;
 use std::alloc::Global;
 use std::marker::Model;
-use step_tables::{Cells, Key, Machine, Table};
+use step_tables::{Key, Machine, Table};
 
 /// The entries of a pair's key, which are its weight.
 const ENTRIES: u64 = 2;

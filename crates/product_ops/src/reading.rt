@@ -8,9 +8,10 @@ ghost use Rattle.product_ops.specs.Pairs.{IsOperand, root_by, step_by};
 
 use digit_codes::{Base, letter_digit};
 use lash_io::Memory;
+use packed_cells::Cells;
 use std::alloc::Global;
 use std::marker::Model;
-use step_tables::{Cells, Table};
+use step_tables::Table;
 
 /// The letter whose digits are a letter's digits at the places.
 fn read_letter(base: Base, tracks: u32, places: &[u32], letter: u32) -> u32

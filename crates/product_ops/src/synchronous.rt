@@ -14,8 +14,9 @@ use crate::outputs::PairOutputs;
 use crate::pairs::Pairs;
 use crate::{Op, TrackMap};
 use lash_io::Memory;
+use packed_cells::{Cells, Plain};
 use std::alloc::Global;
-use step_tables::{BuildError, Cells, ExploreError, Explored, Plain, Table, explore};
+use step_tables::{BuildError, ExploreError, Explored, Table, explore};
 
 /// The pairs that are reached, numbered by their least paths.
 fn explored<A: Cells, B: Cells>(

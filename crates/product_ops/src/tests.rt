@@ -8,10 +8,11 @@ ghost use Rattle.product_ops.specs.Tracks.{AreTracks};
 use super::*;
 use digit_codes::Base;
 use lash_io::Memory;
+use packed_cells::Plain;
 use std::alloc::Global;
 use std::process::Abort;
 use std::test::Fail;
-use step_tables::{BuildError, Plain, Table};
+use step_tables::{BuildError, Table};
 
 /// Gives a state its output and its two targets.
 fn set_row(rt: &impl Abort, table: &mut Table<Plain>, state: u32, row: [u32; 3])

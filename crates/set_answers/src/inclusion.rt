@@ -13,9 +13,10 @@ ghost use Rattle.set_answers.specs.Agreement.{Includes};
 ghost use Rattle.set_answers.specs.Differences.{all_tracks, AreWithin};
 
 use lash_io::Memory;
+use packed_cells::Plain;
 use product_ops::{Op, TrackMap, product};
 use std::alloc::Global;
-use step_tables::{BuildError, Plain, Table};
+use step_tables::{BuildError, Table};
 use weak_min::Canon;
 
 /// Whether each solution of the first diagram's set is one of the second's. As conditions, the diagrams have one base and one number

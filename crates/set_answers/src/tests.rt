@@ -12,10 +12,11 @@ use digit_codes::Base;
 use formula_core::{Sort, Vars};
 use fraction_codes::Ratio;
 use lash_io::{MemSink, Memory};
+use packed_cells::Plain;
 use std::alloc::Global;
 use std::process::Abort;
 use std::test::Fail;
-use step_tables::{BuildError, Plain, Table};
+use step_tables::{BuildError, Table};
 use weak_min::{Canon, canonical};
 
 /// Changes a target.

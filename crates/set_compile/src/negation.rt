@@ -10,8 +10,9 @@ ghost use Rattle.product_ops.specs.Negation.{negated, AcceptsOthers};
 ghost use Rattle.set_compile.specs.Steps.{IsShaped};
 
 use crate::CompileError;
+use packed_cells::Plain;
 use product_ops::complement;
-use step_tables::{Plain, Table};
+use step_tables::Table;
 use weak_min::Canon;
 
 /// The table with the opposite answers.

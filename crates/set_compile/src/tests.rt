@@ -9,10 +9,11 @@ use crate::atoms::append;
 use digit_codes::Base;
 use formula_core::{Formula, Linear, Sort, fits_letters};
 use lash_io::Memory;
+use packed_cells::Plain;
 use std::alloc::Global;
 use std::process::Abort;
 use std::test::Fail;
-use step_tables::{Plain, Table};
+use step_tables::Table;
 use weak_min::Canon;
 
 /// The inequation that a coefficient times the variable at place 0 is at most a constant.

@@ -6,8 +6,9 @@ ghost use Rattle.lash_model.specs.Tables.{ints};
 ghost use Rattle.solution_pick.specs.Arrivals.{AreParents};
 
 use lash_io::Memory;
+use packed_cells::Plain;
 use std::alloc::Global;
-use step_tables::{Plain, Table};
+use step_tables::Table;
 
 /// Makes a state the parent of each state that it has a step to.
 fn mark_row(table: &Table<Plain>, state: u32, parents: &mut Vec<u32>)

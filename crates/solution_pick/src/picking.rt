@@ -14,8 +14,9 @@ use crate::scans::first_yes;
 use crate::walking::{Trail, least_trail};
 use digit_codes::{Lasso, Word};
 use lash_io::Memory;
+use packed_cells::Plain;
 use std::alloc::Global;
-use step_tables::{Plain, Table};
+use step_tables::Table;
 use weak_min::Canon;
 
 /// The word of these letters.

@@ -4,7 +4,8 @@ ghost use Rattle.std.specs.Prelude.{◌≡◌, ℕ, ◌+◌, ◌*◌, ◌^◌, �
 ghost use Rattle.lash_model.specs.Tables.{letters, ints, IsDiagram};
 ghost use Rattle.solution_pick.specs.Arrivals.{IsFirstYes, IsNoRoot, IsFirstRoot, HasLetter, IsFirstLetter};
 
-use step_tables::{Plain, Table};
+use packed_cells::Plain;
+use step_tables::Table;
 
 /// The first state whose output is yes; None where there is none.
 pub(crate) fn first_yes(table: &Table<Plain>) -> Option<u32>

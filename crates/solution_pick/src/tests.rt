@@ -8,10 +8,11 @@ ghost use Rattle.step_tables.specs.Kept.{wide};
 use super::*;
 use digit_codes::{Base, Lasso};
 use lash_io::Memory;
+use packed_cells::Plain;
 use std::alloc::Global;
 use std::process::Abort;
 use std::test::Fail;
-use step_tables::{Plain, Table};
+use step_tables::Table;
 use weak_min::{Canon, canonical};
 
 /// Changes a target.

@@ -8,8 +8,9 @@ ghost use Rattle.solution_pick.specs.Arrivals.{IsLeastTo, AreParents};
 
 use crate::scans::{first_letter, first_sign};
 use lash_io::Memory;
+use packed_cells::Plain;
 use std::alloc::Global;
-use step_tables::{Plain, Table};
+use step_tables::Table;
 
 /// A sign vector, and the letters that are read from its root.
 #[derive(Drop)]

@@ -9,10 +9,11 @@ ghost use Rattle.statement_answers.specs.Keeping.{IsHeld, IsLibrary, kept_cells_
 use crate::errors::Unanswered;
 use canon_text::Header;
 use formula_core::{Formula, Vars};
+use packed_cells::Plain;
 use script_names::{Defs, Name};
 use std::alloc::Global;
 use std::marker::Model;
-use step_tables::{Plain, Table};
+use step_tables::Table;
 use weak_min::Canon;
 
 /// The greatest number of cells of all kept sets together.

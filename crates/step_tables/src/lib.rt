@@ -3,7 +3,6 @@
 
 mod answers;
 mod breadth_first;
-mod cells;
 mod entries;
 mod errors;
 mod explored;
@@ -13,7 +12,6 @@ mod table;
 
 pub use answers::Answers;
 pub use breadth_first::explore;
-pub use cells::{Cells, Plain};
 pub use errors::{BuildError, ExploreError};
 pub use explored::Explored;
 pub use machine::{Key, Machine};

@@ -9,11 +9,12 @@ ghost use Rattle.lash_model.specs.Tables.{IsShape, IsTable, IsDiagram, letters, 
 ghost use Rattle.digit_codes.specs.Reading.{lasso_of};
 ghost use Rattle.step_tables.specs.Kept.{plain, zeros, answered, laid, laid_in_two};
 
+use crate::Explored;
 use crate::answers::{Answers, bits_of};
 use crate::entries::entry_at;
-use crate::{Cells, Explored, Plain};
 use digit_codes::{Base, Lasso};
 use lash_io::Memory;
+use packed_cells::{Cells, Plain};
 use std::alloc::Global;
 use std::marker::Model;
 

@@ -7,6 +7,7 @@ ghost use Rattle.digit_codes.specs.Reading.{lasso_of};
 use super::*;
 use digit_codes::{Base, Lasso, Word};
 use lash_io::Memory;
+use packed_cells::Plain;
 use std::alloc::Global;
 use std::process::Abort;
 use std::test::Fail;
@@ -188,8 +189,6 @@ fn lasso(alloc: Global, sign: u32, stem: u32, cycle: u32) -> Result<Lasso, Memor
 fn pairs_and_zeros(rt: HostRuntime) -> Result<(), Fail> {
     let alloc = rt.alloc();
     five_keys(&rt, alloc, &mut Pairs)?;
-    let cells = Plain::new(alloc, 5)?;
-    assert_eq!(rt; (cells.len(), cells.bound()), (5, 1 << 32));
     let two = Base::new(2).ok_or("2 is a base")?;
     let minus = lasso(alloc, 1, 1, 1)?;
     diagram(&rt, alloc, two, &minus)?;

@@ -11,8 +11,9 @@ use crate::StartSets;
 use crate::kept_letters::{Span, letters_over, sign_base, sign_letter};
 use crate::marks::Marks;
 use lash_io::Memory;
+use packed_cells::Cells;
 use std::alloc::Global;
-use step_tables::{Cells, Table};
+use step_tables::Table;
 
 /// A diagram, the track that is forgotten, and a sign vector of the others, whose roots and whose sign letter lead on.
 #[derive(Drop)]

@@ -4,7 +4,8 @@ ghost use Rattle.std.specs.Prelude.{◌≡◌, ◌<◌, All};
 ghost use Rattle.lash_model.specs.Tables.{ints};
 ghost use Rattle.subset_build.specs.Projection.{is_rising_in, set_says};
 
-use step_tables::{Answers, Cells, Table};
+use packed_cells::Cells;
+use step_tables::{Answers, Table};
 
 /// Whether some member's output is yes.
 fn has_yes<C: Cells>(table: &Table<C>, set: &[u32]) -> bool

@@ -13,8 +13,9 @@ use crate::outputs::SetOutputs;
 use crate::subsets::Subsets;
 use crate::{StartSets, sign_closure};
 use lash_io::Memory;
+use packed_cells::{Cells, Plain};
 use std::alloc::Global;
-use step_tables::{BuildError, Cells, ExploreError, Explored, Plain, Table, explore};
+use step_tables::{BuildError, ExploreError, Explored, Table, explore};
 
 /// The sets of states that are reached, numbered by their least paths.
 fn explored<C: Cells>(

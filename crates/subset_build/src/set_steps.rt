@@ -10,7 +10,8 @@ use crate::kept_letters::{Span, letters_over};
 use digit_codes::Base;
 use lash_io::Memory;
 use std::marker::Model;
-use step_tables::{Cells, Key};
+use packed_cells::Cells;
+use step_tables::Key;
 
 /// The rows of a part of an automaton, and the track that is forgotten.
 #[derive(Drop)]

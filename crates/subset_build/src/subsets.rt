@@ -5,8 +5,9 @@ ghost use Rattle.subset_build.specs.Projection.{int_transitions, AreStartSets};
 
 use crate::{SetSteps, StartSets};
 use lash_io::Memory;
+use packed_cells::Cells;
 use std::marker::Model;
-use step_tables::{Cells, Key, Machine, Table};
+use step_tables::{Key, Machine, Table};
 
 /// Where the sets of states of a diagram go, if a track is forgotten, and the start sets.
 #[derive(Drop)]

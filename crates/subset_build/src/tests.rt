@@ -7,10 +7,11 @@ ghost use Rattle.step_tables.specs.Kept.{wide};
 use super::*;
 use digit_codes::Base;
 use lash_io::Memory;
+use packed_cells::Plain;
 use std::alloc::Global;
 use std::process::Abort;
 use std::test::Fail;
-use step_tables::{BuildError, Plain, Table};
+use step_tables::{BuildError, Table};
 
 /// Gives a diagram its roots.
 fn set_roots(rt: &impl Abort, table: &mut Table<Plain>, roots: &[u32])

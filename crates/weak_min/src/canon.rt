@@ -8,10 +8,11 @@ ghost use Rattle.canonical_laws.specs.Canonical.{IsCanonical, AcceptSameWords};
 use crate::copies::{outs_of, rows_of};
 use crate::quotient::quotient_table;
 use lash_io::Memory;
+use packed_cells::{Cells, Plain};
 use state_classes::classes;
 use std::alloc::Global;
 use std::marker::Model;
-use step_tables::{Cells, Plain, Table};
+use step_tables::Table;
 
 /// A canonical table.
 #[derive(Drop)]

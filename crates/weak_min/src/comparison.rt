@@ -5,7 +5,8 @@ ghost use Rattle.lash_model.specs.Tables.{letters, ints, IsTable};
 ghost use Rattle.canonical_laws.specs.Canonical.{IsCanonical, AcceptSameWords};
 
 use crate::Canon;
-use step_tables::{Plain, Table};
+use packed_cells::Plain;
+use step_tables::Table;
 
 /// Whether base, number of tracks and number of states are equal.
 fn same_shape(left: &Table<Plain>, right: &Table<Plain>) -> bool

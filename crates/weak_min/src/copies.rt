@@ -4,8 +4,9 @@ ghost use Rattle.std.specs.Prelude.{◌≡◌, ◌+◌, ◌*◌, ◌<◌, take, 
 ghost use Rattle.lash_model.specs.Tables.{letters, ints};
 
 use lash_io::Memory;
+use packed_cells::Cells;
 use std::alloc::Global;
-use step_tables::{Cells, Table};
+use step_tables::Table;
 
 /// Appends the targets of a state.
 fn push_row<C: Cells>(table: &Table<C>, state: u32, rows: &mut Vec<u32>) -> Result<(), Memory>

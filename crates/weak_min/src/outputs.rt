@@ -3,7 +3,8 @@
 ghost use Rattle.lash_model.specs.Tables.{ints};
 ghost use Rattle.weak_min.specs.Quotients.{is_state, class_says};
 
-use step_tables::{Answers, Cells, Table};
+use packed_cells::Cells;
+use step_tables::{Answers, Table};
 
 /// The outputs of a diagram's states.
 #[derive(Drop)]

@@ -10,9 +10,10 @@ ghost use Rattle.weak_min.specs.Quotients.{quotient, IsClassed};
 
 use crate::outputs::ClassOutputs;
 use lash_io::Memory;
+use packed_cells::{Cells, Plain};
 use std::alloc::Global;
 use std::marker::Model;
-use step_tables::{Cells, ExploreError, Explored, Key, Machine, Plain, Table, explore};
+use step_tables::{ExploreError, Explored, Key, Machine, Table, explore};
 
 /// The most cells that a table has.
 const MOST_CELLS: u64 = 16_777_216;

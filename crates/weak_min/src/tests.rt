@@ -9,10 +9,11 @@ use super::*;
 use crate::copies::{outs_of, rows_of};
 use digit_codes::Base;
 use lash_io::Memory;
+use packed_cells::Plain;
 use std::alloc::Global;
 use std::process::Abort;
 use std::test::Fail;
-use step_tables::{Plain, Table};
+use step_tables::Table;
 
 /// Gives a state its output and its two targets.
 fn set_row(rt: &impl Abort, table: &mut Table<Plain>, state: u32, row: [u32; 3])
