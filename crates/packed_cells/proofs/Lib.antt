@@ -1,2 +1,4 @@
 pub mod Digits
+mod Copying
 mod Fields
+mod Leading

@@ -3,6 +3,7 @@
 
 mod bits;
 mod cells;
+mod least;
 mod packed;
 mod plain;
 

@@ -2,10 +2,11 @@
 //! takes one or two words.
 
 ghost use Rattle.std.specs.Prelude.{◌≡◌, ℕ, ◌*◌, ◌^◌, ◌≤◌, List, length, replicate, IfOk};
-ghost use Rattle.packed_cells.specs.Cells.{InBits};
+ghost use Rattle.packed_cells.specs.Cells.{InBits, IsLeastBits};
 
 use crate::Cells;
 use crate::bits::{read_bits, write_bits};
+use crate::least::{largest, least_bits};
 use lash_io::Memory;
 use std::alloc::Global;
 use std::marker::Model;
@@ -44,9 +45,26 @@ impl Packed {
         }
     }
 
+    /// The same list, of at most 2^35 numbers, in cells of the least bits that hold each of them, at least 1.
+    pub fn of_cells<C: Cells>(alloc: Global, cells: &C) -> Result<Packed, Memory>
+        requires { length (C.items cells.now) ≤ 2 ^ 35 }
+        ensures items { IfOk result (λ p. p.items ≡ C.items cells.now) }
+        ensures bits { IfOk result (λ p. IsLeastBits (C.items cells.now) p.bits) }
+    {
+        let mut packed = match Packed::new(alloc, cells.len(), least_bits(largest(cells))) {
+            Ok(packed) => packed,
+            Err(Memory) => return Err(Memory),
+        };
+        for at in 0..cells.len() {
+            packed.set(at, cells.get(at));
+        }
+        Ok(packed)
+    }
+
     /// How many words of 64 bits the cells take: the least number of words that holds them all.
     pub fn word_count(&self) -> usize
         ensures enough { length self.now.items * self.now.bits ≤ result * 64 }
+        ensures few { result ≤ 2 ^ 34 }
         ensures least { (words : ℕ) → length self.now.items * self.now.bits ≤ words * 64 → result ≤ words }
     {
         self.words.len()

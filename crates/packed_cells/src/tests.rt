@@ -1,4 +1,5 @@
-//! Zeros in cells of 32 and of 3 bits, and the last of five cells of 13 bits, which lies across two words, changed.
+//! Zeros in cells of 32 and of 3 bits, the last of five cells of 13 bits, which lies across two words, changed, and lists in the least
+//! cells.
 
 ghost use Rattle.std.specs.Prelude.{◌≤◌, ◌*◌, ◌^◌};
 
@@ -16,7 +17,8 @@ fn zeros_and_a_cell_across_two_words(rt: HostRuntime) -> Result<(), Fail> {
     are_zeros(&rt, &Plain::copied(alloc, &[0, 0])?);
     packed_zeros(&rt, alloc, 5, 1)?;
     packed_zeros(&rt, alloc, 22, 2)?;
-    last_of_five(&rt, alloc)
+    last_of_five(&rt, alloc)?;
+    least_cells(&rt, alloc)
 }
 
 fn are_zeros<C: Cells>(rt: &impl Abort, cells: &C) {
@@ -50,5 +52,15 @@ fn last_of_five(rt: &impl Abort, alloc: Global) -> Result<(), Fail> {
     packed.set(3, 5);
     packed.set(4, 4097);
     assert_eq!(rt; (packed.get(3), packed.get(4)), (5, 4097));
+    Ok(())
+}
+
+// The largest number 7 takes 3 bits, and zeros take 1.
+fn least_cells(rt: &impl Abort, alloc: Global) -> Result<(), Fail> {
+    let packed = Packed::of_cells(alloc, &Plain::copied(alloc, &[0, 7, 2])?)?;
+    assert_eq!(rt; (packed.len(), packed.bound()), (3, 8));
+    assert_eq!(rt; (packed.get(0), packed.get(1), packed.get(2)), (0, 7, 2));
+    assert_eq!(rt; Packed::of_cells(alloc, &packed)?.bound(), 8);
+    assert_eq!(rt; Packed::of_cells(alloc, &Plain::new(alloc, 2)?)?.bound(), 2);
     Ok(())
 }

@@ -1,3 +1,4 @@
+mod RowsOf
 pub mod Keys
 pub mod Placing
 pub mod Numbering

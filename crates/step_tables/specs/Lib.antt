@@ -1,3 +1,5 @@
 pub mod Kept
+pub mod Packing
+pub mod Rows
 pub mod FoundKeys
 pub mod Gathering

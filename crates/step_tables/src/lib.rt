@@ -8,6 +8,7 @@ mod errors;
 mod explored;
 mod found;
 mod machine;
+mod rows;
 mod table;
 
 pub use answers::Answers;
@@ -15,7 +16,8 @@ pub use breadth_first::explore;
 pub use errors::{BuildError, ExploreError};
 pub use explored::Explored;
 pub use machine::{Key, Machine};
-pub use table::Table;
+pub use rows::Rows;
+pub use table::{Table, pack};
 
 #[cfg(test)]
 mod tests;

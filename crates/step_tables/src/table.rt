@@ -9,12 +9,15 @@ ghost use Rattle.lash_model.specs.Tables.{IsShape, IsTable, IsDiagram, letters, 
 ghost use Rattle.digit_codes.specs.Reading.{lasso_of};
 ghost use Rattle.step_tables.specs.Kept.{plain, zeros, answered, laid, laid_in_two};
 
+mod packing;
+
 use crate::Explored;
 use crate::answers::{Answers, bits_of};
 use crate::entries::entry_at;
 use digit_codes::{Base, Lasso};
 use lash_io::Memory;
 use packed_cells::{Cells, Plain};
+pub use packing::pack;
 use std::alloc::Global;
 use std::marker::Model;
 
