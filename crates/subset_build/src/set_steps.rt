@@ -9,8 +9,8 @@ ghost use Rattle.subset_build.specs.Subsets.{AreTransitions, targets, targets_of
 use crate::kept_letters::{Span, letters_over};
 use digit_codes::Base;
 use lash_io::Memory;
-use std::marker::Model;
 use packed_cells::Cells;
+use std::marker::Model;
 use step_tables::Key;
 
 /// The rows of a part of an automaton, and the track that is forgotten.
