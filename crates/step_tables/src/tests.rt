@@ -89,82 +89,6 @@ impl Machine for Pairs {
     }
 }
 
-impl Answers for Pairs {
-    ghost use Rattle.std.specs.Prelude.{length, slice_index, nat_eq};
-
-    ghost says_yes = { λ _ k. nat_eq (slice_index k 0) 4 };
-
-    ghost is_proper = { λ _ k. nat_eq (length k) 2 };
-
-    fn is_yes(&self, key: &[u32]) -> bool {
-        key[0] == 4
-    }
-}
-
-/// The states of the diagram of `x >= 0` alone.
-#[derive(Drop)]
-struct Right;
-
-fn write_state(state: u32, into: &mut Key) -> Result<(), Memory>
-    ensures { OnOk result (into.new.items ≡ state ∷ []) }
-{
-    into.clear();
-    match into.extend_from_slice(&[state]) {
-        Ok(()) => Ok(()),
-        Err(_) => Err(Memory),
-    }
-}
-
-impl Machine for Right {
-    ghost use Rattle.std.specs.Prelude.{ℕ, ◌+◌, ◌*◌, [], ◌∷◌, length, slice_index, nat_eq};
-
-    ghost meaning = { λ _. record { width = 2; starts = (0 ∷ []) ∷ (1 ∷ []) ∷ []; step = λ k l. slice_index (0 ∷ 0 ∷ 1 ∷ 1 ∷ []) (slice_index k 0 * 2 + l) ∷ []; weight = λ _. 1; is_proper = λ k. nat_eq (length k) 1 } };
-
-    fn letters(&self) -> u32 {
-        2
-    }
-
-    fn starts(&self) -> usize {
-        2
-    }
-
-    fn start(&mut self, at: usize, into: &mut Key) -> Result<(), Memory> {
-        if at == 0 {
-            write_state(0, into)
-        } else {
-            write_state(1, into)
-        }
-    }
-
-    fn step(&mut self, from: &Key, letter: u32, into: &mut Key) -> Result<(), Memory> {
-        let state = from.as_slice()[0];
-        write_state(
-            entry(&RIGHT, u64::from(state) * 2 + u64::from(letter)),
-            into,
-        )
-    }
-
-    fn numbers(&self) -> u64 {
-        2
-    }
-
-    fn radix(&self) -> u32 {
-        0
-    }
-
-    fn number_behind(&self, _from: &Key, _letter: u32) -> u64 {
-        u64::MAX
-    }
-
-    fn is_behind(&self, _from: &Key, _letter: u32, _key: &[u32]) -> bool {
-        false
-    }
-
-    fn weight(&self, _key: &Key) -> u64 {
-        1
-    }
-}
-
 /// The lasso of a sign and two letters, one for the stem and one for the cycle.
 fn lasso(alloc: Global, sign: u32, stem: u32, cycle: u32) -> Result<Lasso, Memory>
     ensures { IfOk result (λ x. lasso_of x ≡ record { sign = sign; whole = []; stem = stem ∷ []; cycle = cycle ∷ [] }) }
@@ -192,8 +116,7 @@ fn pairs_and_zeros(rt: HostRuntime) -> Result<(), Fail> {
     let two = Base::new(2).ok_or("2 is a base")?;
     let minus = lasso(alloc, 1, 1, 1)?;
     diagram(&rt, alloc, two, &minus)?;
-    fractions(&rt, alloc, two, &minus)?;
-    two_explorations(&rt, alloc, two)
+    fractions(&rt, alloc, two, &minus)
 }
 
 // Five keys of 25 cells, in the order of their least paths, and at one cell less none.
@@ -237,31 +160,5 @@ fn fractions(rt: &impl Abort, alloc: Global, two: Base, minus: &Lasso) -> Result
     assert!(rt; table.accepts(minus));
     table.set_frac(0, 1, 1);
     assert!(rt; !table.accepts(minus));
-    Ok(())
-}
-
-// The two states of `x >= 0`, whose outputs are the two pairs that start; the pairs are the fraction states, and yes is that of 4 and 0.
-fn two_explorations(rt: &impl Abort, alloc: Global, two: Base) -> Result<(), Fail>
-    requires { two ≡ 2 }
-{
-    let whole = explore(alloc, &mut Right, 100)?;
-    let fraction = explore(alloc, &mut Pairs, 100)?;
-    assert!(rt; whole.len() as usize == fraction.starts().len());
-    let made = Table::of_two_explored(alloc, two, 1, &whole, &fraction, &Pairs)?;
-    assert!(rt; made.ints() == 2);
-    assert!(rt; made.fracs() == 5);
-    assert!(rt; made.tracks() == 1);
-    assert!(rt; made.letters() == 2);
-    assert_eq!(rt; (made.root(0), made.root(1)), (0, 1));
-    assert_eq!(rt; (made.int_step(1, 0), made.out(0), made.out(1)), (1, 0, 1));
-    assert_eq!(rt;
-        (
-            made.frac_step(0, 1),
-            made.frac_step(2, 0),
-            made.frac_step(3, 1)
-        ),
-        (2, 3, 4)
-    );
-    assert_eq!(rt; (made.colour(3), made.colour(4)), (false, true));
     Ok(())
 }
