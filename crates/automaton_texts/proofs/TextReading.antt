@@ -1,7 +1,7 @@
 -- The text of a diagram is read in one way: two tables of one base, one number of tracks and one variable list that have one text
 -- are equal.
 use Rattle.std.proofs.Common.{◌≡◌, ℕ, zero, suc, ◌+◌, ◌*◌, ◌%◌, ◌^◌, ◌≤◌, ◌<◌, Bool, true, false, List, [], ◌∷◌, ◌++◌, codes, length, arith, refl, ◌∙◌, sym, ap, subst, append_assoc}
-use Rattle.std.specs.Prelude.{slice_index, nat_eq, All, if◌then◌else◌}
+use Rattle.std.specs.Prelude.{slice_index, nat_eq, if◌then◌else◌}
 use Rattle.std.specs.Fmt.{decimal}
 use Rattle.std.proofs.lemmas.Fmt.{decimal_is_IsNumeral, decimal_by_steps}
 use Rattle.std.specs.Str.Parse.{digits_value}
@@ -19,7 +19,7 @@ AreDigitBytes [] = Unit {0}
 AreDigitBytes (b ∷ bs) = (47 < b) × AreDigitBytes bs
 
 -- the first byte comes before the digits' codes
-Stops : List ℕ → Type 0
+unfoldable pub Stops : List ℕ → Type 0
 Stops [] = ⊥
 Stops (b ∷ bs) = b < 48
 
@@ -59,7 +59,7 @@ part_digits (a ∷ p) (b ∷ q) x y hp hq sx sy e = let r = part_digits p q x y 
     same_tail e = cc
 
 -- a number behind a space, in front of a byte that is no digit, is read in one way
-record SameNumber (n m : ℕ) (x y : List ℕ) : Type 0 where
+pub record SameNumber (n m : ℕ) (x y : List ℕ) : Type 0 where
   pub number : n ≡ m
   pub back : x ≡ y
 
@@ -67,19 +67,19 @@ read_decimal : (n m : ℕ) (x y : List ℕ) → n < 2 ^ 64 → m < 2 ^ 64 → St
 read_decimal n m x y hn hm sx sy e = let r = part_digits (decimal n) (decimal m) x y (decimal_bytes n hn) (decimal_bytes m hm) sx sy e in
     record { number = sym (decimal_is_IsNumeral n hn).1 ∙ ap (digits_value 10) r.front ∙ (decimal_is_IsNumeral m hm).1; back = r.back }
 
-read_number : (n m : ℕ) (x y : List ℕ) → n < 2 ^ 64 → m < 2 ^ 64 → Stops x → Stops y → number_text n ++ x ≡ number_text m ++ y → SameNumber n m x y
+pub read_number : (n m : ℕ) (x y : List ℕ) → n < 2 ^ 64 → m < 2 ^ 64 → Stops x → Stops y → number_text n ++ x ≡ number_text m ++ y → SameNumber n m x y
 read_number n m x y hn hm sx sy e = read_decimal n m x y hn hm sx sy (append_cancel_left (codes " ") (decimal n ++ x) (decimal m ++ y) e)
 
-stops_number : (n : ℕ) (x : List ℕ) → Stops (number_text n ++ x)
+pub stops_number : (n : ℕ) (x : List ℕ) → Stops (number_text n ++ x)
 unfolding Stops
 stops_number n x = omega arith
 
 -- so many numbers, each behind a space
-record SameNumbers (f g : ℕ → ℕ) (count : ℕ) (x y : List ℕ) : Type 0 where
+pub record SameNumbers (f g : ℕ → ℕ) (count : ℕ) (x y : List ℕ) : Type 0 where
   pub numbers : (i : ℕ) → i < count → f i ≡ g i
   pub back : x ≡ y
 
-read_numbers : (f g : ℕ → ℕ) (count : ℕ) (x y : List ℕ) → ((i : ℕ) → i < count → f i < 2 ^ 64) → ((i : ℕ) → i < count → g i < 2 ^ 64) → Stops x → Stops y → texts_upto (λ i. number_text (f i)) count ++ x ≡ texts_upto (λ i. number_text (g i)) count ++ y → SameNumbers f g count x y
+pub read_numbers : (f g : ℕ → ℕ) (count : ℕ) (x y : List ℕ) → ((i : ℕ) → i < count → f i < 2 ^ 64) → ((i : ℕ) → i < count → g i < 2 ^ 64) → Stops x → Stops y → texts_upto (λ i. number_text (f i)) count ++ x ≡ texts_upto (λ i. number_text (g i)) count ++ y → SameNumbers f g count x y
 read_numbers f g zero x y hf hg sx sy e = record { numbers = λ i h. absurd (omega (arith, h)); back = e }
 read_numbers f g (suc count) x y hf hg sx sy e =
     let first = read_numbers f g count (number_text (f count) ++ x) (number_text (g count) ++ y) (λ i h. hf i (omega (arith, h))) (λ i h. hg i (omega (arith, h))) (stops_number (f count) x) (stops_number (g count) y)
@@ -94,11 +94,11 @@ read_numbers f g (suc count) x y hf hg sx sy e =
     same i n h k = omega (arith, h, k)
 
 -- yes and no
-record SameAnswer (a b : Bool) (x y : List ℕ) : Type 0 where
+pub record SameAnswer (a b : Bool) (x y : List ℕ) : Type 0 where
   pub answer : a ≡ b
   pub back : x ≡ y
 
-read_answer : (a b : Bool) (x y : List ℕ) → answer_text a ++ x ≡ answer_text b ++ y → SameAnswer a b x y
+pub read_answer : (a b : Bool) (x y : List ℕ) → answer_text a ++ x ≡ answer_text b ++ y → SameAnswer a b x y
 read_answer true true x y e = record { answer = refl; back = append_cancel_left (codes " +") x y e }
 read_answer false false x y e = record { answer = refl; back = append_cancel_left (codes " -") x y e }
 read_answer true false x y e = absurd (differ e)
@@ -120,7 +120,7 @@ record SameLine (t u : Table) (q : ℕ) (x y : List ℕ) : Type 0 where
 SmallRows : Table → Type 0
 SmallRows t = (q l : ℕ) → q < ints t → l < letters t → slice_index t.rows (q * letters t + l) < 2 ^ 64
 
-join_line : (a b c x : List ℕ) → (a ++ (b ++ (c ++ codes "\n"))) ++ x ≡ a ++ (b ++ (c ++ (codes "\n" ++ x)))
+pub join_line : (a b c x : List ℕ) → (a ++ (b ++ (c ++ codes "\n"))) ++ x ≡ a ++ (b ++ (c ++ (codes "\n" ++ x)))
 join_line a b c x = append_assoc a (b ++ (c ++ codes "\n")) x ∙ ap (λ z. a ++ z) (append_assoc b (c ++ codes "\n") x ∙ ap (λ z. b ++ z) (append_assoc c (codes "\n") x))
 
 diagram_out : (t : Table) → IsDiagram t → (q : ℕ) → out_text t (slice_index t.outs q) ≡ answer_text (nat_eq (slice_index t.outs q) 1)

@@ -1,0 +1,2 @@
+pub mod MixedTexts
+pub mod TextsOfMixedSets
