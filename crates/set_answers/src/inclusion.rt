@@ -13,7 +13,7 @@ ghost use Rattle.set_answers.specs.Agreement.{Includes};
 ghost use Rattle.set_answers.specs.Differences.{all_tracks, AreWithin};
 
 use lash_io::Memory;
-use packed_cells::Plain;
+use packed_cells::{Packed, Plain};
 use product_ops::{Op, TrackMap, product};
 use std::alloc::Global;
 use step_tables::{BuildError, Table};
@@ -38,8 +38,8 @@ pub fn subset(alloc: Global, left: &Canon, right: &Canon, limit: u64) -> Result<
 /// The same of tables that are known to be canonical.
 fn subset_of(
     alloc: Global,
-    left: &Table<Plain>,
-    right: &Table<Plain>,
+    left: &Table<Packed>,
+    right: &Table<Packed>,
     limit: u64,
 ) -> Result<bool, BuildError>
     requires left { IsCanonical left.now.table }

@@ -10,13 +10,13 @@ ghost use Rattle.product_ops.specs.Negation.{negated, AcceptsOthers};
 ghost use Rattle.set_compile.specs.Steps.{IsShaped};
 
 use crate::CompileError;
-use packed_cells::Plain;
+use packed_cells::Packed;
 use product_ops::complement;
 use step_tables::Table;
 use weak_min::Canon;
 
 /// The table with the opposite answers.
-fn exchanged(part: Canon) -> Table<Plain>
+fn exchanged(part: Canon) -> Table<Packed>
     ensures changed { result ≡ record part { table = negated part.table } }
     ensures diagram { IsDiagram result.table }
     ensures canonical { IsCanonical result.table }

@@ -9,7 +9,7 @@ use crate::atoms::append;
 use digit_codes::Base;
 use formula_core::{Formula, Linear, Sort, fits_letters};
 use lash_io::Memory;
-use packed_cells::Plain;
+use packed_cells::Packed;
 use std::alloc::Global;
 use std::process::Abort;
 use std::test::Fail;
@@ -218,21 +218,21 @@ fn is_heavy(rt: &impl Abort, made: Result<Canon, CompileError>) {
     }
 }
 
-fn outs_are(rt: &impl Abort, table: &Table<Plain>, outs: &[u32]) {
+fn outs_are(rt: &impl Abort, table: &Table<Packed>, outs: &[u32]) {
     assert!(rt; table.ints() as usize == outs.len());
     for state in 0..table.ints() {
         assert_eq!(rt; table.out(state), outs[state as usize]);
     }
 }
 
-fn row_is(rt: &impl Abort, table: &Table<Plain>, state: u32, row: &[u32]) {
+fn row_is(rt: &impl Abort, table: &Table<Packed>, state: u32, row: &[u32]) {
     assert!(rt; state < table.ints() && table.letters() as usize == row.len());
     for letter in 0..table.letters() {
         assert_eq!(rt; table.int_step(state, letter), row[letter as usize]);
     }
 }
 
-fn roots_are(rt: &impl Abort, table: &Table<Plain>, roots: &[u32]) {
+fn roots_are(rt: &impl Abort, table: &Table<Packed>, roots: &[u32]) {
     assert!(rt; table.tracks() <= 2 && 2usize.pow(table.tracks()) == roots.len());
     for sign in 0..2u32.pow(table.tracks()) {
         assert_eq!(rt; table.root(sign), roots[sign as usize]);

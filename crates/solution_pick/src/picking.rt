@@ -14,7 +14,7 @@ use crate::scans::first_yes;
 use crate::walking::{Trail, least_trail};
 use digit_codes::{Lasso, Word};
 use lash_io::Memory;
-use packed_cells::Plain;
+use packed_cells::Packed;
 use std::alloc::Global;
 use step_tables::Table;
 use weak_min::Canon;
@@ -54,7 +54,7 @@ fn whole_lasso(alloc: Global, sign: u32, letters: &[u32]) -> Result<Lasso, Memor
 }
 
 /// The solution of a table that is known to be canonical.
-fn solution_of(alloc: Global, table: &Table<Plain>) -> Result<Option<Lasso>, Memory>
+fn solution_of(alloc: Global, table: &Table<Packed>) -> Result<Option<Lasso>, Memory>
     requires { IsCanonical table.now.table }
     ensures none { IfOk result (λ found. IfNone found (AcceptsNothing table.now.table)) }
     ensures least { IfOk result (λ found. IfSome found (λ x. IsLeastAccepted table.now.table x.sign x.whole)) }

@@ -4,11 +4,11 @@ ghost use Rattle.std.specs.Prelude.{◌≡◌, ℕ, ◌+◌, ◌*◌, ◌^◌, �
 ghost use Rattle.lash_model.specs.Tables.{letters, ints, IsDiagram};
 ghost use Rattle.solution_pick.specs.Arrivals.{IsFirstYes, IsNoRoot, IsFirstRoot, HasLetter, IsFirstLetter};
 
-use packed_cells::Plain;
+use packed_cells::Packed;
 use step_tables::Table;
 
 /// The first state whose output is yes; None where there is none.
-pub(crate) fn first_yes(table: &Table<Plain>) -> Option<u32>
+pub(crate) fn first_yes(table: &Table<Packed>) -> Option<u32>
     ensures none { IfNone result ((q : ℕ) → q < ints table.now.table → slice_index table.now.table.outs q ≡ 1 → ⊥) }
     ensures some { IfSome result (IsFirstYes table.now.table) }
 {
@@ -21,7 +21,7 @@ pub(crate) fn first_yes(table: &Table<Plain>) -> Option<u32>
 }
 
 /// The number of sign vectors.
-fn sign_count(table: &Table<Plain>) -> u32
+fn sign_count(table: &Table<Packed>) -> u32
     ensures { result ≡ 2 ^ table.now.table.tracks }
 {
     // They are no more than the letters, since the base is at least 2.
@@ -32,7 +32,7 @@ fn sign_count(table: &Table<Plain>) -> u32
 }
 
 /// The first sign vector whose root is the state; None where there is none.
-pub(crate) fn first_sign(table: &Table<Plain>, state: u32) -> Option<u32>
+pub(crate) fn first_sign(table: &Table<Packed>, state: u32) -> Option<u32>
     ensures none { IfNone result (IsNoRoot table.now.table state) }
     ensures some { IfSome result (IsFirstRoot table.now.table state) }
 {
@@ -45,7 +45,7 @@ pub(crate) fn first_sign(table: &Table<Plain>, state: u32) -> Option<u32>
 }
 
 /// The first letter that leads from the one state to the other; there is one.
-pub(crate) fn first_letter(table: &Table<Plain>, from: u32, to: u32) -> u32
+pub(crate) fn first_letter(table: &Table<Packed>, from: u32, to: u32) -> u32
     requires from { from < ints table.now.table }
     requires letter { HasLetter table.now.table from to }
     ensures { IsFirstLetter table.now.table from to result }

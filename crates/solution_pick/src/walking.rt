@@ -8,7 +8,7 @@ ghost use Rattle.solution_pick.specs.Arrivals.{IsLeastTo, AreParents};
 
 use crate::scans::{first_letter, first_sign};
 use lash_io::Memory;
-use packed_cells::Plain;
+use packed_cells::Packed;
 use std::alloc::Global;
 use step_tables::Table;
 
@@ -22,7 +22,7 @@ pub(crate) struct Trail {
 /// The least path to a state.
 pub(crate) fn least_trail(
     alloc: Global,
-    table: &Table<Plain>,
+    table: &Table<Packed>,
     parents: &[u32],
     state: u32,
 ) -> Result<Trail, Memory>

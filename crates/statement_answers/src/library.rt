@@ -9,7 +9,7 @@ ghost use Rattle.statement_answers.specs.Keeping.{IsHeld, IsLibrary, kept_cells_
 use crate::errors::Unanswered;
 use canon_text::Header;
 use formula_core::{Formula, Vars};
-use packed_cells::Plain;
+use packed_cells::Packed;
 use script_names::{Defs, Name};
 use std::alloc::Global;
 use std::marker::Model;
@@ -50,7 +50,7 @@ impl Model for Library {
 }
 
 // For each state one cell, and one for each letter.
-fn table_cells(table: &Table<Plain>) -> u64
+fn table_cells(table: &Table<Packed>) -> u64
     ensures cells { result ≡ cells_of table.now.table }
     ensures few { result ≤ 16777216 }
 {

@@ -8,16 +8,16 @@ ghost use Rattle.canonical_laws.specs.Canonical.{IsCanonical, AcceptSameWords};
 use crate::copies::{outs_of, rows_of};
 use crate::quotient::quotient_table;
 use lash_io::Memory;
-use packed_cells::{Cells, Plain};
+use packed_cells::{Cells, Packed, Plain};
 use state_classes::classes;
 use std::alloc::Global;
 use std::marker::Model;
-use step_tables::Table;
+use step_tables::{Table, pack};
 
-/// A canonical table.
+/// A canonical table, in packed cells.
 #[derive(Drop)]
 pub struct Canon {
-    table: Table<Plain>,
+    table: Table<Packed>,
 }
 
 impl Model for Canon {
@@ -33,7 +33,7 @@ impl Model for Canon {
 
 impl Canon {
     /// A table that is known to be canonical.
-    pub fn new(table: Table<Plain>) -> Self
+    pub fn new(table: Table<Packed>) -> Self
         requires { IsCanonical table.table }
         ensures { result ≡ table }
     {
@@ -41,7 +41,7 @@ impl Canon {
     }
 
     /// The table.
-    pub fn table(&self) -> &Table<Plain>
+    pub fn table(&self) -> &Table<Packed>
         ensures value { result.now ≡ self.now }
         ensures canonical { IsCanonical self.now.table }
     {
@@ -49,7 +49,7 @@ impl Canon {
     }
 
     /// The table, given away.
-    pub fn into_table(self) -> Table<Plain>
+    pub fn into_table(self) -> Table<Packed>
         ensures value { result ≡ self }
         ensures canonical { IsCanonical result.table }
     {
@@ -77,6 +77,17 @@ fn classes_of<C: Cells>(alloc: Global, table: &Table<C>) -> Result<Vec<u32>, Mem
     classes(alloc, &rows, table.letters(), &outs)
 }
 
+/// A canonical table in packed cells. Fails only for want of memory.
+fn packed(alloc: Global, table: &Table<Plain>) -> Result<Canon, Memory>
+    requires { IsCanonical table.now.table }
+    ensures { IfOk result (λ u. u.table ≡ table.now.table) }
+{
+    match pack(alloc, table) {
+        Ok(made) => Ok(Canon::new(made)),
+        Err(Memory) => Err(Memory),
+    }
+}
+
 /// The canonical table of a diagram: of the same base and number of tracks, it accepts the same words. Fails only for want of memory.
 pub fn canonical<C: Cells>(alloc: Global, table: &Table<C>) -> Result<Canon, Memory>
     requires { IsDiagram table.now.table }
@@ -90,7 +101,7 @@ pub fn canonical<C: Cells>(alloc: Global, table: &Table<C>) -> Result<Canon, Mem
         Err(Memory) => return Err(Memory),
     };
     match quotient_table(alloc, table, &classes) {
-        Ok(made) => Ok(Canon::new(made)),
+        Ok(made) => packed(alloc, &made),
         Err(Memory) => Err(Memory),
     }
 }

@@ -5,18 +5,18 @@ ghost use Rattle.lash_model.specs.Tables.{letters, ints, IsTable};
 ghost use Rattle.canonical_laws.specs.Canonical.{IsCanonical, AcceptSameWords};
 
 use crate::Canon;
-use packed_cells::Plain;
+use packed_cells::Packed;
 use step_tables::Table;
 
 /// Whether base, number of tracks and number of states are equal.
-fn same_shape(left: &Table<Plain>, right: &Table<Plain>) -> bool
+fn same_shape(left: &Table<Packed>, right: &Table<Packed>) -> bool
     ensures { IsTrue result ↔ ((left.now.table.base ≡ right.now.table.base) × (left.now.table.tracks ≡ right.now.table.tracks) × (ints left.now.table ≡ ints right.now.table)) }
 {
     left.base() == right.base() && left.tracks() == right.tracks() && left.ints() == right.ints()
 }
 
 /// Whether all roots are equal.
-fn same_roots(left: &Table<Plain>, right: &Table<Plain>) -> bool
+fn same_roots(left: &Table<Packed>, right: &Table<Packed>) -> bool
     requires left { IsTable left.now.table }
     requires right { IsTable right.now.table }
     requires tracks { left.now.table.tracks ≡ right.now.table.tracks }
@@ -31,7 +31,7 @@ fn same_roots(left: &Table<Plain>, right: &Table<Plain>) -> bool
 }
 
 /// Whether all targets of a state are equal.
-fn same_row(left: &Table<Plain>, right: &Table<Plain>, state: u32) -> bool
+fn same_row(left: &Table<Packed>, right: &Table<Packed>, state: u32) -> bool
     requires letters { letters left.now.table ≡ letters right.now.table }
     requires left { state < ints left.now.table }
     requires right { state < ints right.now.table }
@@ -46,7 +46,7 @@ fn same_row(left: &Table<Plain>, right: &Table<Plain>, state: u32) -> bool
 }
 
 /// Whether all targets are equal.
-fn same_rows(left: &Table<Plain>, right: &Table<Plain>) -> bool
+fn same_rows(left: &Table<Packed>, right: &Table<Packed>) -> bool
     requires left { IsTable left.now.table }
     requires right { IsTable right.now.table }
     requires letters { letters left.now.table ≡ letters right.now.table }
@@ -62,7 +62,7 @@ fn same_rows(left: &Table<Plain>, right: &Table<Plain>) -> bool
 }
 
 /// Whether all outputs are equal.
-fn same_outs(left: &Table<Plain>, right: &Table<Plain>) -> bool
+fn same_outs(left: &Table<Packed>, right: &Table<Packed>) -> bool
     requires { ints left.now.table ≡ ints right.now.table }
     ensures { IsTrue result ↔ (left.now.table.outs ≡ right.now.table.outs) }
 {
@@ -75,7 +75,7 @@ fn same_outs(left: &Table<Plain>, right: &Table<Plain>) -> bool
 }
 
 /// Whether two diagrams that are canonical are equal. Neither has fraction states.
-fn same_tables(left: &Table<Plain>, right: &Table<Plain>) -> bool
+fn same_tables(left: &Table<Packed>, right: &Table<Packed>) -> bool
     requires left { IsCanonical left.now.table }
     requires right { IsCanonical right.now.table }
     ensures { IsTrue result ↔ (left.now.table ≡ right.now.table) }

@@ -9,7 +9,7 @@ use super::*;
 use crate::copies::{outs_of, rows_of};
 use digit_codes::Base;
 use lash_io::Memory;
-use packed_cells::Plain;
+use packed_cells::{Cells, Plain};
 use std::alloc::Global;
 use std::process::Abort;
 use std::test::Fail;
@@ -48,18 +48,18 @@ fn counts(rt: &impl Abort, alloc: Global, base: Base) -> Result<Table<Plain>, Me
     Ok(table)
 }
 
-fn check_roots(rt: &impl Abort, table: &Table<Plain>) {
+fn check_roots<C: Cells>(rt: &impl Abort, table: &Table<C>) {
     assert!(rt; table.tracks() == 1);
     assert_eq!(rt; (table.root(0), table.root(1)), (0, 1));
 }
 
-fn check_rows(rt: &impl Abort, alloc: Global, table: &Table<Plain>) -> Result<(), Fail> {
+fn check_rows<C: Cells>(rt: &impl Abort, alloc: Global, table: &Table<C>) -> Result<(), Fail> {
     let rows = rows_of(alloc, table)?;
     assert_eq!(rt; rows.as_slice(), [0, 2, 1, 1, 3, 3, 4, 4, 4, 4].as_slice());
     Ok(())
 }
 
-fn check_outs(rt: &impl Abort, alloc: Global, table: &Table<Plain>) -> Result<(), Fail> {
+fn check_outs<C: Cells>(rt: &impl Abort, alloc: Global, table: &Table<C>) -> Result<(), Fail> {
     let outs = outs_of(alloc, table)?;
     assert_eq!(rt; outs.as_slice(), [1, 1, 1, 1, 0].as_slice());
     Ok(())
@@ -79,6 +79,8 @@ fn check_canonical(rt: &impl Abort, alloc: Global, table: &Table<Plain>) -> Resu
     check_roots(rt, canon.table());
     check_rows(rt, alloc, canon.table())?;
     check_outs(rt, alloc, canon.table())?;
+    // Two roots and five outputs of 1 bit, and ten targets of 3 bits: each list takes one word.
+    assert_eq!(rt; canon.table().words(), 3);
     check_again(rt, alloc, &canon)
 }
 
