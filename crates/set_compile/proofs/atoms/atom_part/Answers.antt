@@ -6,6 +6,7 @@ use Rattle.lash_model.specs.Formulas.{Linear, IsInside, Atom}
 use Rattle.lash_model.specs.Meaning.{holds}
 use Rattle.lash_model.specs.Standing.{StandsForWhole}
 use Rattle.canonical_laws.proofs.Carrying.{stands_carried}
+use Rattle.threshold_laws.specs.Thresholds.{IsAtomTable}
 use Rattle.linear_atoms.specs.Kinds.{comparison_of}
 use Rattle.set_compile.specs.Steps.{own}
 use Rattle.set_compile.proofs.OwnTerms.{few_tracks, own_below, own_inside}
@@ -28,3 +29,12 @@ atom_int-requires-clause-inside c = subst IsInside (sym c.in-Ok.ensures.own) (ow
 
 pub returns-in-Ok-canonical-clause-stands : goal.returns-in-Ok-canonical-clause-stands
 returns-in-Ok-canonical-clause-stands c = stands_carried c.in-Ok-atom_int.table.table c.in-Ok-canonical.made.table (holds (Atom (comparison_of c.args.kind) (own c.args.term.now))) (sym c.in-Ok-canonical.ensures.base) (sym c.in-Ok-canonical.ensures.tracks) c.in-Ok-canonical.ensures.canonical.diagram c.in-Ok-canonical.ensures.words (subst (λ (a : Linear). StandsForWhole c.in-Ok-atom_int.table.table (holds (Atom (comparison_of c.args.kind) a))) c.in-Ok.ensures.own c.in-Ok-atom_int.ensures.stands)
+
+pub returns-in-Ok-canonical-clause-made : goal.returns-in-Ok-canonical-clause-made
+returns-in-Ok-canonical-clause-made c = record {
+  atom_table = c.in-Ok-atom_int.table.table;
+  counts =
+      subst (λ n. IsAtomTable (comparison_of c.args.kind) (own c.args.term.now) c.args.base n c.args.limit c.in-Ok-atom_int.table.table) (ap length c.terms.ensures.terms)
+      (subst (λ (a : Linear). IsAtomTable (comparison_of c.args.kind) a c.args.base (length c.terms.result.now) c.args.limit c.in-Ok-atom_int.table.table) c.in-Ok.ensures.own c.in-Ok-atom_int.ensures.counts);
+  words = c.in-Ok-canonical.ensures.words;
+}

@@ -1,5 +1,5 @@
 -- Each node's clauses from those of its parts.
-use Rattle.std.proofs.Common.{◌≡◌, ℤ, List, length, sym, ap, ap₂, ◌∙◌, subst}
+use Rattle.std.proofs.Common.{rules, ◌≡◌, ◌+◌, ℤ, List, length, sym, ap, ap₂, ◌∙◌, subst}
 use Rattle.std.specs.Prelude.{IfOk}
 use Rattle.std.proofs.lemmas.Result.{IfOk-weaker}
 use Rattle.lash_model.specs.Formulas as model
@@ -125,6 +125,13 @@ part-returns-in-Ok-clause-made t c =
     both_ok c.opposite.result P Q R (λ k shape others.
     subst (λ f. IsMade c.args.base c.args.places c.args.limit (formula_of f) k.table) (sym c.in-Not.is) (not_made c.args.base c.args.places c.args.limit f u k.table part shape others)) c.opposite.ensures.shape c.opposite.ensures.words
 
+pub part-returns-in-Ok-clause-shape : goal.part-returns-in-Ok-clause-shape
+part-returns-in-Ok-clause-shape t c =
+    let m = c.args.places in
+    let P : Kept → Type 0 = λ k. IsMade c.args.base m c.args.limit (formula_of c.args.formula.now) k.table in
+    let R : Kept → Type 0 = λ k. IsShaped c.args.base (length (free_places (formula_of c.args.formula.now) m)) k.table in
+    IfOk-weaker c.opposite.result P R (λ k made. shape_of c.args.base m c.args.limit (formula_of c.args.formula.now) k.table made) (part-returns-in-Ok-clause-made t c)
+
 pub part-returns-in-Ok-clause-stands : goal.part-returns-in-Ok-clause-stands
 part-returns-in-Ok-clause-stands t c =
     let f = formula_of c.in-Not.inner.value in
@@ -158,6 +165,14 @@ part-returns-in-Or-clause-stands t c =
     subst (λ h. IfOk c.disjunction.result (λ (k : Kept). StandsForWhole k.table (set_of h (spread c.args.places (free_places h c.args.places))))) whole c.disjunction.ensures.stands
 
 -- ---- Exists
+pub part-bound-requires-clause-stands : goal.part-bound-requires-clause-stands
+part-bound-requires-clause-stands t c =
+    let body = c.in-Ok-part.body.table in
+    let one_more : c.in-Some.within ≡ c.args.places + 1 = search rules in
+    let same : c.deref-in-Some.result.now ≡ c.deref-in-Ok-part.result.now = c.deref-in-Some.ensures ∙ sym c.deref-in-Ok-part.ensures in
+    subst (λ f. StandsForWhole body (set_of (formula_of f) (spread (c.args.places + 1) (free_places (formula_of f) (c.args.places + 1))))) same
+    (subst (λ n. StandsForWhole body (set_of (formula_of c.deref-in-Some.result.now) (spread n (free_places (formula_of c.deref-in-Some.result.now) n)))) one_more c.in-Ok-part.ensures.stands)
+
 pub part-returns-in-Ok-part-clause-shape : goal.part-returns-in-Ok-part-clause-shape
 part-returns-in-Ok-part-clause-shape t c =
     let m = c.args.places in
