@@ -6,3 +6,4 @@ pub mod FillingSteps
 pub mod Sweeping
 pub mod Finishing
 pub mod Excluding
+pub mod WholeFilling

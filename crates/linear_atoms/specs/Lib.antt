@@ -2,3 +2,4 @@ pub mod Closing
 pub mod Totals
 pub mod Kinds
 pub mod Filling
+pub mod Whole
