@@ -8,13 +8,15 @@ ghost use Rattle.lash_model.specs.Formulas.{Linear, Comparison, Atom};
 ghost use Rattle.lash_model.specs.Lassos.{Lasso, IsLasso, numerators, denominator};
 ghost use Rattle.lash_model.specs.Meaning.{total, holds};
 ghost use Rattle.lash_model.specs.Standing.{StandsForMixed};
-ghost use Rattle.lash_model.specs.Tables.{Table};
+ghost use Rattle.lash_model.specs.Tables.{Table, letters};
 ghost use Rattle.threshold_laws.specs.Thresholds.{letter_total, AreThresholds};
 ghost use Rattle.lash_model.specs.Words.{values};
 ghost use Rattle.lasso_laws.specs.Points.{IsSamePoint, turned, rotated, padded};
 ghost use Rattle.part_laws.specs.Graphs.{IsWeak};
+ghost use Rattle.part_laws.specs.CanonicalMixed.{fraction_graph};
 ghost use Rattle.lasso_laws.specs.WholeNumbers.{whole_at, IsWholeTable};
 ghost use Rattle.lasso_laws.specs.Windows.{IsBoundGraph, CountsBounds, window_seeds};
+ghost use Rattle.lasso_laws.specs.RealAtoms.{IsRealAtomTable};
 
 /// A lasso keeps its point if its cycle is put at the end of its stem and repeated, if its cycle is rotated, and if sign letters are
 /// put in front.
@@ -49,4 +51,11 @@ pub fn windows_are_weak()
 pub fn whole_tables_stand()
     ensures stands { (r n track : ℕ) (t : Table) → 2 ≤ r → track < n → IsWholeTable r n track t → StandsForMixed t (whole_at track) }
     ensures weak { (r n track : ℕ) (t : Table) → IsWholeTable r n track t → IsWeak (r ^ n) (record { rows = t.frac_rows; colours = t.colours }) }
+{}
+
+/// The table of an atom over the fractions stands for its atom, and its fraction part is weak.
+pub fn real_atom_tables_stand()
+    ensures stands { (kind : Comparison) (a : Linear) (r n limit : ℕ) (t : Table) → 2 ≤ r → IsRealAtomTable kind a r n limit t
+        → StandsForMixed t (holds (Atom kind a)) }
+    ensures weak { (kind : Comparison) (a : Linear) (r n limit : ℕ) (t : Table) → IsRealAtomTable kind a r n limit t → IsWeak (letters t) (fraction_graph t) }
 {}

@@ -5,6 +5,8 @@ use Rattle.std.specs.List.{slice_index_or, AllPairs}
 use mathlib.Core.Logic.{inl, inr}
 use Rattle.lash_model.specs.Formulas.{Linear, Comparison}
 use Rattle.lash_model.specs.Tables.{Table}
+use Rattle.lasso_laws.specs.Windows.{window_seeds}
+use Rattle.lasso_laws.specs.RealAtoms.{bound_states, IsRealAtomTable, IsHeavyRealAtom}
 use Rattle.threshold_laws.specs.Thresholds.{seeds, letter_total, Among, AreThresholds, atom_cells, TooManyThresholds, IsAtomTable, IsHeavyAtom}
 
 -- the list without a member
@@ -52,3 +54,6 @@ all_too_many r width total seeds ts fracs limit many all = omega (
 
 pub not_heavy_with_table : (kind : Comparison) (a : Linear) (r n limit : ℕ) (t : Table) → IsHeavyAtom kind a r n limit → IsAtomTable kind a r n limit t → ⊥
 not_heavy_with_table kind a r n limit t heavy made = omega (arith, made.within, all_too_many r (r ^ n) (letter_total a.terms r n) (seeds kind a.constant) made.found 0 limit heavy made.thresholds)
+
+pub not_heavy_with_real_table : (kind : Comparison) (a : Linear) (r n limit : ℕ) (t : Table) → IsHeavyRealAtom kind a r n limit → IsRealAtomTable kind a r n limit t → ⊥
+not_heavy_with_real_table kind a r n limit t heavy made = omega (arith, made.within, all_too_many r (r ^ n) (letter_total a.terms r n) (window_seeds kind a) made.found (bound_states a.terms) limit heavy made.thresholds)

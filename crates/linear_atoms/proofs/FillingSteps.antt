@@ -14,7 +14,7 @@ use Rattle.threshold_laws.specs.Thresholds.{letter_total, sign_total}
 use Rattle.lash_model.specs.Letters.{sign_bit}
 use Rattle.step_tables.specs.Kept.{Kept}
 use Rattle.linear_atoms.specs.Closing.{entry}
-use Rattle.linear_atoms.specs.Filling.{target_of, AreRows, AreStepsFilled}
+use Rattle.linear_atoms.specs.Filling.{target_of, AreEntries, AreRows, AreStepsFilled}
 
 -- there are no more sign vectors than letters
 pub few_signs : (base n : ℕ) → 2 ≤ base → base ^ n ≤ 4096 → 2 ^ n ≤ 4096
@@ -28,28 +28,29 @@ sign_total_by_digits terms n sign = refl
 pub place_within : (c m w l : ℕ) → c < m → l < w → c * w + l < m * w
 place_within c m w l h k = grind arith
 
-rows_more : (base : ℕ) (totals ts : List ℤ) (state l : ℕ) (rows : List ℕ) (to : ℕ) → AreRows base totals ts (state * length totals + l) rows → l < length totals → state * length totals + l < length rows → to ≡ target_of base ts state (entry totals l) → AreRows base totals ts (state * length totals + (l + 1)) (slice_set rows (state * length totals + l) to)
-rows_more base totals ts state l rows to r inside place is = record {
-  each = λ c k c_in k_in h. elim (cases_lt (c * length totals + k) (state * length totals + l)) [
-    | inl before ↦ get_or-set_other rows (state * length totals + l) (c * length totals + k) to 0 (apart (c * length totals + k) before) ∙ r.each c k c_in k_in before
+-- one entry more
+pub entry_more : (states width : ℕ) (target : ℕ → ℕ → ℕ) (state l : ℕ) (rows : List ℕ) (to : ℕ) → AreEntries states width (state * width + l) target rows → l < width → state * width + l < length rows → to ≡ target state l → AreEntries states width (state * width + (l + 1)) target (slice_set rows (state * width + l) to)
+entry_more states width target state l rows to r inside place is = record {
+  each = λ c k c_in k_in h. elim (cases_lt (c * width + k) (state * width + l)) [
+    | inl before ↦ get_or-set_other rows (state * width + l) (c * width + k) to 0 (apart (c * width + k) before) ∙ r.each c k c_in k_in before
     | inr last ↦ written c k k_in (omega (arith, h, last))
   ];
 }
   where
-    apart : (p : ℕ) → p < state * length totals + l → p ≡ state * length totals + l → ⊥
+    apart : (p : ℕ) → p < state * width + l → p ≡ state * width + l → ⊥
     apart p h e = omega (arith, h, e)
 
-    written : (c k : ℕ) → k < length totals → c * length totals + k ≡ state * length totals + l → slice_index_or (slice_set rows (state * length totals + l) to) (c * length totals + k) 0 ≡ target_of base ts c (entry totals k)
-    written c k k_in e = let same = same_from_place c k state l (length totals) k_in inside e in
-        ap (λ p. slice_index_or (slice_set rows (state * length totals + l) to) p 0) e ∙ get_or-set_same rows (state * length totals + l) to 0 place ∙ is ∙ ap (λ x. target_of base ts x (entry totals l)) (sym same.0) ∙ ap (λ x. target_of base ts c (entry totals x)) (sym same.1)
+    written : (c k : ℕ) → k < width → c * width + k ≡ state * width + l → slice_index_or (slice_set rows (state * width + l) to) (c * width + k) 0 ≡ target c k
+    written c k k_in e = let same = same_from_place c k state l width k_in inside e in
+        ap (λ p. slice_index_or (slice_set rows (state * width + l) to) p 0) e ∙ get_or-set_same rows (state * width + l) to 0 place ∙ is ∙ ap (λ x. target x l) (sym same.0) ∙ ap (λ x. target c x) (sym same.1)
 
 -- the kept table with one target written
 pub filling_row : (a : Linear) (base n : ℕ) (totals ts : List ℤ) (fracs roots state l to : ℕ) (k : Kept) → AreStepsFilled a base n totals ts fracs roots (state * length totals + l) k → IsTable (record k.table { rows = slice_set k.table.rows (state * k.table.base ^ k.table.tracks + l) to }) → state < length ts + 1 → l < length totals → length totals ≡ base ^ n → to ≡ target_of base ts state (entry totals l) → AreStepsFilled a base n totals ts fracs roots (state * length totals + (l + 1)) (record k { table = record k.table { rows = slice_set k.table.rows (state * k.table.base ^ k.table.tracks + l) to } })
 filling_row a base n totals ts fracs roots state l to k f table state_in l_in width is = record {
   shape = record { base_is = f.shape.base_is; tracks_are = f.shape.tracks_are; states = f.shape.states; fractions = f.shape.fractions; table = table };
-  wide = record { roots = f.wide.roots; rows = f.wide.rows; outs = f.wide.outs };
+  wide = record { roots = f.wide.roots; rows = f.wide.rows; outs = f.wide.outs; frac_rows = f.wide.frac_rows };
   roots_filled = f.roots_filled;
-  rows_filled = subst (λ w. AreRows base totals ts (state * length totals + (l + 1)) (slice_set k.table.rows (state * w + l) to)) letters_are (rows_more base totals ts state l k.table.rows to f.rows_filled l_in (subst (λ m. state * length totals + l < m) (sym rows_are) (place_within state (length ts + 1) (length totals) l state_in l_in)) is);
+  rows_filled = subst (λ w. AreRows base totals ts (state * length totals + (l + 1)) (slice_set k.table.rows (state * w + l) to)) letters_are (entry_more (length ts + 1) (length totals) (λ c j. target_of base ts c (entry totals j)) state l k.table.rows to f.rows_filled l_in (subst (λ m. state * length totals + l < m) (sym rows_are) (place_within state (length ts + 1) (length totals) l state_in l_in)) is);
 }
   where
     letters_are : length totals ≡ k.table.base ^ k.table.tracks

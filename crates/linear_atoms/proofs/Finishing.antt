@@ -1,5 +1,6 @@
 -- From the totals that were computed to the totals of the atom, and from a filled table to one that counts thresholds.
-use Rattle.std.proofs.Common.{◌≡◌, ℕ, ◌+◌, ◌-◌, ◌*◌, ◌^◌, ◌≤◌, ◌<◌, List, [], ◌∷◌, length, arith, refl, ◌∙◌, sym, ap, subst}
+use Rattle.std.proofs.Common.{◌≡◌, ℕ, ◌+◌, ◌-◌, ◌*◌, ◌/◌, ◌^◌, ◌≤◌, ◌<◌, List, [], ◌∷◌, length, arith, refl, ◌∙◌, sym, ap, subst}
+use Rattle.std.proofs.Math.Nat.{lt-div-mul-add}
 use Rattle.std.proofs.Math.IntN.{ℤ}
 use Rattle.std.specs.List.{slice_index_or, AllByRecursion}
 use Rattle.std.proofs.lemmas.List.Elements.{All-weaker}
@@ -7,7 +8,7 @@ use Rattle.lash_model.specs.Formulas.{Linear, Comparison, Atom}
 use Rattle.lash_model.specs.Meaning.{holds}
 use Rattle.lash_model.specs.Tables.{Table}
 use Rattle.lash_model.specs.Standing.{StandsForWhole}
-use Rattle.threshold_laws.specs.Thresholds.{seeds, letter_total, lowered_by, lowered, IsThreshold, AreThresholds, atom_cells, StepsByThresholds, CountsThresholds, IsAtomTable, IsHeavyAtom}
+use Rattle.threshold_laws.specs.Thresholds.{seeds, letter_total, lowered_by, lowered, IsThreshold, AreThresholds, atom_cells, TooManyThresholds, StepsByThresholds, CountsThresholds, IsAtomTable}
 use Rattle.threshold_laws.proofs.AtomTables.{counting_stands, some_threshold}
 use Rattle.step_tables.specs.Kept.{Kept}
 use Rattle.linear_atoms.specs.Closing.{entry, IsOverfull}
@@ -40,16 +41,17 @@ pub atom_thresholds : (terms : List (ℕ × ℤ)) (r n : ℕ) (totals ss ts : Li
 atom_thresholds terms r n totals ss ts t a = thresholds_same r (r ^ n) (entry totals) (letter_total terms r n) t.each ss ts (subst (λ w. AreThresholds r w (entry totals) ss ts) t.count a)
 
 -- too many for the room are too many for the limit
-pub atom_heavy : (kind : Comparison) (a : Linear) (r n : ℕ) (totals : List ℤ) (room limit : ℕ) → AreTotals a.terms r n totals → IsOverfull r totals (seeds kind a.constant) room → limit < (room + 2) * (r ^ n + 1) → IsHeavyAtom kind a r n limit
-atom_heavy kind a r n totals room limit t o h = record {
+pub too_many : (a : Linear) (r n : ℕ) (totals ss : List ℤ) (room fracs limit : ℕ) → AreTotals a.terms r n totals → IsOverfull r totals ss room → limit < (room + 2 + fracs) * (r ^ n + 1)
+    → TooManyThresholds r (r ^ n) (letter_total a.terms r n) ss fracs limit
+too_many a r n totals ss room fracs limit t o h = record {
   found = o.found;
   distinct = o.distinct;
-  sound = All-weaker (IsThreshold r (length totals) (entry totals) (seeds kind a.constant)) (IsThreshold r (r ^ n) (letter_total a.terms r n) (seeds kind a.constant)) (λ b s. threshold_same r (r ^ n) (entry totals) (letter_total a.terms r n) t.each (seeds kind a.constant) b (subst (λ w. IsThreshold r w (entry totals) (seeds kind a.constant) b) t.count s)) o.found o.sound;
-  over = more_cells (length o.found) room (r ^ n) limit o.over h;
+  sound = All-weaker (IsThreshold r (length totals) (entry totals) ss) (IsThreshold r (r ^ n) (letter_total a.terms r n) ss) (λ b s. threshold_same r (r ^ n) (entry totals) (letter_total a.terms r n) t.each ss b (subst (λ w. IsThreshold r w (entry totals) ss b) t.count s)) o.found o.sound;
+  over = more_cells (length o.found) room (r ^ n) fracs limit o.over h;
 }
   where
-    more_cells : (count room width limit : ℕ) → room < count → limit < (room + 2) * (width + 1) → limit < atom_cells width count 0
-    more_cells count room width limit h k = grind arith
+    more_cells : (count room width fracs limit : ℕ) → room < count → limit < (room + 2 + fracs) * (width + 1) → limit < atom_cells width count fracs
+    more_cells count room width fracs limit h k = grind arith
 
 -- a table with all its steps filled steps by the thresholds
 pub filled_steps : (a : Linear) (r n : ℕ) (totals ts : List ℤ) (fracs : ℕ) (k : Kept) → AreTotals a.terms r n totals → AreStepsFilled a r n totals ts fracs (2 ^ n) ((length ts + 1) * length totals) k → StepsByThresholds a r n ts k.table
@@ -77,20 +79,30 @@ filled_counts kind a r n totals ts k t f = record {
   outs = f.outs_filled.each;
 }
 
-few_cells : (count room width limit : ℕ) → 0 < count → count ≤ room → (0 < room → (room + 1) * (width + 1) ≤ limit) → atom_cells width count 0 ≤ limit
-few_cells count room width limit some h fits = at_most (count + 1 + 0) (room + 1) (width + 1) limit (omega (arith, h)) (fits (omega (arith, some, h)))
+pub few_cells : (count room fracs width limit : ℕ) → 0 < count → count ≤ room → (0 < room → (room + 1 + fracs) * (width + 1) ≤ limit) → atom_cells width count fracs ≤ limit
+few_cells count room fracs width limit some h fits = at_most (count + 1 + fracs) (room + 1 + fracs) (width + 1) limit (omega (arith, h)) (fits (omega (arith, some, h)))
   where
     at_most : (a b w limit : ℕ) → a ≤ b → b * w ≤ limit → a * w ≤ limit
     at_most a b w limit h k = grind arith
 
 -- the filled table is the atom's
-pub atom_table : (kind : Comparison) (a : Linear) (r n : ℕ) (totals ts : List ℤ) (room limit : ℕ) (k : Kept) → AreTotals a.terms r n totals → AreThresholds r (length totals) (entry totals) (seeds kind a.constant) ts → length ts ≤ room → (0 < room → (room + 1) * (r ^ n + 1) ≤ limit) → IsFilling kind a r n totals ts 0 (length ts + 1) k → IsAtomTable kind a r n limit k.table
+pub atom_table : (kind : Comparison) (a : Linear) (r n : ℕ) (totals ts : List ℤ) (room limit : ℕ) (k : Kept) → AreTotals a.terms r n totals → AreThresholds r (length totals) (entry totals) (seeds kind a.constant) ts → length ts ≤ room → (0 < room → (room + 1 + 0) * (r ^ n + 1) ≤ limit) → IsFilling kind a r n totals ts 0 (length ts + 1) k → IsAtomTable kind a r n limit k.table
 atom_table kind a r n totals ts room limit k t e few fits f = record {
   found = ts;
   thresholds = atom_thresholds a.terms r n totals (seeds kind a.constant) ts t e;
   counts = filled_counts kind a r n totals ts k t f;
-  within = few_cells (length ts) room (r ^ n) limit (some_threshold kind a.constant r (length totals) (entry totals) ts e) few fits;
+  within = few_cells (length ts) room 0 (r ^ n) limit (some_threshold kind a.constant r (length totals) (entry totals) ts e) few fits;
 }
 
 pub atom_stands : (kind : Comparison) (a : Linear) (r n limit : ℕ) (t : Table) → 0 < r → IsAtomTable kind a r n limit t → StandsForWhole t (holds (Atom kind a))
 atom_stands kind a r n limit t h i = counting_stands kind a r n i.found t h i.counts i.thresholds
+
+-- the room leaves one integer state and the fraction states their cells
+pub over_room : (limit width fracs room : ℕ) → room ≡ limit / (width + 1) - (1 + fracs) → limit < (room + 2 + fracs) * (width + 1)
+over_room limit width fracs room e = omega (arith, lt-div-mul-add {a = limit} {b = width + 1} (omega arith), one_more (limit / (width + 1)) (width + 1), grown (limit / (width + 1) + 1) (room + 2 + fracs) (width + 1) (omega (arith, e)))
+  where
+    one_more : (q w : ℕ) → (q + 1) * w ≡ q * w + w
+    one_more q w = omega arith
+
+    grown : (a b w : ℕ) → a ≤ b → a * w ≤ b * w
+    grown a b w h = grind arith

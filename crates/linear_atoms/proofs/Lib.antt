@@ -7,3 +7,5 @@ pub mod Sweeping
 pub mod Finishing
 pub mod Excluding
 pub mod WholeFilling
+pub mod WindowSums
+pub mod BoundFilling

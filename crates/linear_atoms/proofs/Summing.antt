@@ -13,7 +13,7 @@ use Rattle.lash_model.proofs.Digits.{digit-quotient}
 use Rattle.linear_atoms.specs.Closing.{IsSmallTotal}
 use Rattle.linear_atoms.specs.Totals.{IsSumming, letter_digits}
 
-drop_at : (ts : List (ℕ × ℤ)) (at : ℕ) (d : ℕ × ℤ) → at < length ts → drop at ts ≡ slice_index_or ts at d ∷ drop (suc at) ts
+pub drop_at : (ts : List (ℕ × ℤ)) (at : ℕ) (d : ℕ × ℤ) → at < length ts → drop at ts ≡ slice_index_or ts at d ∷ drop (suc at) ts
 drop_at [] at d h = absurd (omega arith)
 drop_at (t ∷ ts) zero d h = refl
 drop_at (t ∷ ts) (suc at) d h = drop_at ts at d (omega (arith, h))
@@ -65,7 +65,7 @@ coefficient_within [] at d h = absurd (omega arith)
 coefficient_within (t ∷ ts) zero d h = omega arith
 coefficient_within (t ∷ ts) (suc at) d h = omega (arith, coefficient_within ts at d (omega (arith, h)))
 
-drop_all : (ts : List (ℕ × ℤ)) → drop (length ts) ts ≡ []
+pub drop_all : (ts : List (ℕ × ℤ)) → drop (length ts) ts ≡ []
 drop_all [] = refl
 drop_all (t ∷ ts) = drop_all ts
 

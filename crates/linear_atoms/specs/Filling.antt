@@ -16,9 +16,13 @@ pub record IsCountedUpTo (ts : List ℤ) (value : ℤ) (count : ℕ) : Type 0 wh
   pub within : count ≤ length ts
   pub last : 0 < count → entry ts (count - 1) <ℤ value
 
--- the first entries of the rows are filled
-pub record AreRows (base : ℕ) (totals ts : List ℤ) (filled : ℕ) (rows : List ℕ) : Type 0 where
-  pub each : (c l : ℕ) → c < length ts + 1 → l < length totals → c * length totals + l < filled → slice_index_or rows (c * length totals + l) 0 ≡ target_of base ts c (entry totals l)
+-- the first entries of rows are filled: how many states, how many letters, how many entries, the target of a state and a letter
+pub record AreEntries (states width filled : ℕ) (target : ℕ → ℕ → ℕ) (rows : List ℕ) : Type 0 where
+  pub each : (q l : ℕ) → q < states → l < width → q * width + l < filled → slice_index_or rows (q * width + l) 0 ≡ target q l
+
+-- the first entries of the rows of counts are filled
+abbrev pub AreRows : ℕ → List ℤ → List ℤ → ℕ → List ℕ → Type 0
+AreRows base totals ts filled rows = AreEntries (length ts + 1) (length totals) filled (λ c l. target_of base ts c (entry totals l)) rows
 
 -- the first roots are filled
 pub record AreRoots (terms : List (ℕ × ℤ)) (tracks : ℕ) (ts : List ℤ) (filled : ℕ) (roots : List ℕ) : Type 0 where
@@ -41,6 +45,7 @@ pub record IsWide (k : Kept) : Type 0 where
   pub roots : k.bounds.roots ≡ 2 ^ 32
   pub rows : k.bounds.rows ≡ 2 ^ 32
   pub outs : k.bounds.outs ≡ 2 ^ 32
+  pub frac_rows : k.bounds.frac_rows ≡ 2 ^ 32
 
 -- what the steps of a table are filled from: the base and the number of tracks, an atom inside the limits, the totals of its letters,
 -- and its thresholds, rising

@@ -3,3 +3,4 @@ pub mod Totals
 pub mod Kinds
 pub mod Filling
 pub mod Whole
+pub mod Bounds

@@ -47,15 +47,16 @@ fn seeds_of(alloc: Global, kind: AtomKind, bound: &i128) -> Result<Vec<i128>, Bu
     }
 }
 
-/// How many thresholds there may be, so that a table of one state more is within the limit.
-fn room_for(letters: u32, limit: u64) -> usize
+/// How many thresholds there may be, so that a table of one integer state more, and of so many fraction states, is within the limit.
+pub(crate) fn room_for(letters: u32, fracs: u32, limit: u64) -> usize
     requires letters { letters ≤ 4096 }
+    requires fracs { fracs ≤ 2 ^ 25 }
     requires limit { limit ≤ 16777216 }
-    ensures fits { 0 < result → (result + 1) * (letters + 1) ≤ limit }
-    ensures over { limit < (result + 2) * (letters + 1) }
+    ensures fits { 0 < result → (result + 1 + fracs) * (letters + 1) ≤ limit }
+    ensures over { limit < (result + 2 + fracs) * (letters + 1) }
     ensures bound { result ≤ 16777216 }
 {
-    (limit / (u64::from(letters) + 1)).saturating_sub(1) as usize
+    (limit / (u64::from(letters) + 1)).saturating_sub(1 + u64::from(fracs)) as usize
 }
 
 /// The table of an equation or inequation over integers, of so many tracks. The atom's places are tracks, the atom is inside the
@@ -86,7 +87,7 @@ pub fn atom_int(
         Ok(seeds) => seeds,
         Err(error) => return Err(error),
     };
-    let room = room_for(base.radix().pow(tracks), limit);
+    let room = room_for(base.radix().pow(tracks), 0, limit);
     let thresholds = match thresholds(alloc, base.radix(), &totals, &seeds, room) {
         Ok(thresholds) => thresholds,
         Err(error) => return Err(error),
@@ -123,7 +124,7 @@ fn table_of(alloc: Global, plan: &Plan) -> Result<Table<Plain>, BuildError>
 }
 
 /// The table of a plan with all its steps, and with outputs, targets and colours of 0.
-fn stepping(alloc: Global, plan: &Plan) -> Result<Table<Plain>, BuildError>
+pub(crate) fn stepping(alloc: Global, plan: &Plan) -> Result<Table<Plain>, BuildError>
     requires plan { IsPlan plan.now.base plan.now.tracks plan.now.atom.now plan.now.totals.now plan.now.thresholds.now }
     requires cells { (length plan.now.thresholds.now + 1 + plan.now.fracs) * (plan.now.base ^ plan.now.tracks + 1) ≤ 16777216 }
     ensures steps { IfOk result (λ t. AreStepsFilled plan.now.atom.now plan.now.base plan.now.tracks plan.now.totals.now plan.now.thresholds.now plan.now.fracs (2 ^ plan.now.tracks) ((length plan.now.thresholds.now + 1) * length plan.now.totals.now) t) }

@@ -6,7 +6,7 @@ use Rattle.threshold_laws.proofs.AtomTables.{some_threshold}
 use Rattle.linear_atoms.specs.Kinds.{comparison_of}
 use Rattle.linear_atoms.specs.Closing.{entry, IsOverfull}
 use Rattle.linear_atoms.specs.Filling.{IsPlan, IsFilling}
-use Rattle.linear_atoms.proofs.Finishing.{atom_heavy, atom_table, atom_stands}
+use Rattle.linear_atoms.proofs.Finishing.{too_many, atom_table, atom_stands}
 use Rattle.linear_atoms.proofs.atom.atom_int.Goals as goal
 
 pub returns-in-Err-thresholds-clause-heavy : goal.returns-in-Err-thresholds-clause-heavy
@@ -16,7 +16,7 @@ returns-in-Err-thresholds-clause-heavy c = λ e.
     let seeds_are : c.deref-2.result.now ≡ seeds (comparison_of c.args.kind) c.args.atom.now.constant = search rules in
     let o : IsOverfull c.args.base c.in-Ok.totals.items (seeds (comparison_of c.args.kind) c.args.atom.now.constant) c.room_for-room.result =
     subst (λ ss. IsOverfull c.args.base c.in-Ok.totals.items ss c.room_for-room.result) seeds_are (subst (λ ts. IsOverfull c.args.base ts c.deref-2.result.now c.room_for-room.result) totals_are (subst (λ b. IsOverfull b c.deref.result.now c.deref-2.result.now c.room_for-room.result) base_is (c.in-Err-thresholds.ensures.heavy e))) in
-    atom_heavy (comparison_of c.args.kind) c.args.atom.now c.args.base c.args.tracks c.in-Ok.totals.items c.room_for-room.result c.args.limit c.in-Ok.ensures.totals o (search rules)
+    too_many c.args.atom.now c.args.base c.args.tracks c.in-Ok.totals.items (seeds (comparison_of c.args.kind) c.args.atom.now.constant) c.room_for-room.result 0 c.args.limit c.in-Ok.ensures.totals o (search rules)
 
 pub table_of-requires-clause-plan : goal.table_of-requires-clause-plan
 table_of-requires-clause-plan c =
