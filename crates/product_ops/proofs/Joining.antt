@@ -16,7 +16,8 @@ use Rattle.product_ops.specs.declared.operation.Op.TheVariants.{And, Or, AndNot}
 use Rattle.product_ops.proofs.TrackReading.{read_in, values_read}
 
 -- a word is read as a word
-word_in : (r n : ℕ) (places w : List ℕ) → 0 < r → All (λ p. p < n) places → All (λ l. l < r ^ n) w → All (λ l. l < r ^ length places) (map (read_by r n places) w)
+pub word_in : (r n : ℕ) (places w : List ℕ) → 0 < r → All (λ p. p < n) places → All (λ l. l < r ^ n) w → All (λ l. l < r ^ length places)
+    (map (read_by r n places) w)
 word_in r n places w b h a i d lt =
     let at : i < length w = subst (λ k. i < k) (length-map w (read_by r n places)) lt in
     subst (λ x. x < r ^ length places) (sym (get_or-map (read_by r n places) w i 0 d at)) (read_in r n places (slice_index_or w i 0) b h (a i 0 at))
@@ -42,7 +43,8 @@ parted : false ≡ true → ⊥
 parted e = cc
 
 -- the truth functions agree
-joins : (op : Op) (x y : Bool) (P Q : List ℤ → ℕ → Type 0) (m : TrackLists) (ns : List ℤ) (d : ℕ) → IsTrue x ↔ P (pick_entries m.left ns) d → IsTrue y ↔ Q (pick_entries m.right ns) d → IsTrue (truth op x y) ↔ joined op P Q m ns d
+pub joins : (op : Op) (x y : Bool) (P Q : List ℤ → ℕ → Type 0) (m : TrackLists) (ns : List ℤ) (d : ℕ) → IsTrue x ↔ P (pick_entries m.left ns) d
+    → IsTrue y ↔ Q (pick_entries m.right ns) d → IsTrue (truth op x y) ↔ joined op P Q m ns d
 joins And true true P Q m ns d p q = (λ _. (p.0 refl, q.0 refl), λ _. refl)
 joins And true false P Q m ns d p q = (λ e. absurd (parted e), λ j. absurd (parted (q.1 j.1)))
 joins And false y P Q m ns d p q = (λ e. absurd (parted e), λ j. absurd (parted (p.1 j.0)))

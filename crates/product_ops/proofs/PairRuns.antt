@@ -1,5 +1,5 @@
 -- The pair after a word is the pair of states after what each operand reads of the word.
-use Rattle.std.proofs.Common.{◌≡◌, ℕ, ◌^◌, ◌<◌, Bool, true, false, List, [], ◌∷◌, length, map, refl, ◌∙◌, sym, ap, subst, zero-add}
+use Rattle.std.proofs.Common.{arith, ◌≡◌, ℕ, ◌^◌, ◌<◌, Bool, true, false, List, [], ◌∷◌, length, map, refl, ◌∙◌, sym, ap, subst, zero-add}
 use Rattle.std.specs.Prelude.{slice_index, slice_get, nat_eq}
 use Rattle.std.specs.declared.option.Option.TheVariants.{Some}
 use Rattle.std.proofs.lemmas.List.FromFn.{get_or-map-range_with_len, length-map-range_with_len}
@@ -7,15 +7,17 @@ use Rattle.std.proofs.lemmas.List.{length-map, get_or-map}
 use Rattle.std.proofs.lemmas.Option.{slice_get_within, get_or_from_slice_get}
 use Rattle.graph_laws.specs.Walks.{go}
 use Rattle.graph_laws.specs.Paths.{Path}
-use Rattle.graph_laws.specs.Exploring.{KeyTable, list_at, led, after, IsPath, position, IsExplored, IsHeavy}
+use Rattle.graph_laws.specs.Exploring.{Steps, KeyTable, list_at, led, after, IsPath, position, IsExplored, IsHeavy}
 use Rattle.graph_laws.proofs.Weighing.{not_both}
 use Rattle.lash_model.specs.Tables.{Table, letters, ints}
 use Rattle.lash_model.specs.Acceptance.{int_state}
 use Rattle.step_tables.specs.Kept.{Kept, plain, answered, laid}
 use Rattle.product_ops.specs.Tracks.{TrackLists, read_by}
 use Rattle.product_ops.specs.Operations.{truth}
-use Rattle.product_ops.specs.Pairs.{Operand, root_by, step_by, accepts_by, left_operand, right_operand, pair, pairs_of, pairs, bit, pair_says, IsPairTable, AcceptsBoth}
+use Rattle.product_ops.specs.Pairs.{Operand, Operands, AreOperands, root_by, step_by, accepts_by, left_operand, right_operand, pair, pairs_of, pairs, bit}
+use Rattle.product_ops.specs.Pairs.{pair_says, IsPairTable, AcceptsBoth}
 use Rattle.product_ops.specs.declared.operation.Op.{Op}
+use Rattle.product_ops.proofs.TrackReading.{few_signs}
 
 -- the state of an operand after what it reads of a sign vector and a word
 abbrev state_by : Operand → ℕ → List ℕ → ℕ
@@ -64,6 +66,19 @@ answers op a b m limit t h base tracks sign w lt inside = ap (λ q. nat_eq (slic
 -- ---- the table of pairs
 pub starts_of : (a b : Table) (m : TrackLists) (limit : ℕ) (k : KeyTable) → IsExplored (pairs a b m) limit k → length k.starts ≡ 2 ^ m.tracks
 starts_of a b m limit k e = e.starts_count ∙ starts_count (left_operand a m) (right_operand b m)
+
+-- the machine of two readers is that of the tables that they read
+pub machine_of : (p : Operands) (l r : Operand) (a b : Table) (m : TrackLists) → p ≡ record { left = l; right = r } → l ≡ left_operand a m
+    → r ≡ right_operand b m → pairs_of p.left p.right ≡ pairs a b m
+machine_of p l r a b m e left right = ap (λ (v : Operands). pairs_of v.left v.right) e ∙ ap (λ o. pairs_of o r) left
+    ∙ ap (λ o. pairs_of (left_operand a m) o) right
+
+-- it has few starts
+pub few_starts : (p : Operands) (l r : Operand) (a b : Table) (m : TrackLists) → p ≡ record { left = l; right = r } → l ≡ left_operand a m
+    → r ≡ right_operand b m → AreOperands (record { left = left_operand a m; right = right_operand b m }) → length (pairs_of p.left p.right).starts < 2 ^ 32
+few_starts p l r a b m e left right h =
+    subst (λ (s : Steps). length s.starts < 2 ^ 32) (sym (machine_of p l r a b m e left right))
+    (omega (arith, starts_count (left_operand a m) (right_operand b m), few_signs a.base m.tracks h.left_is.table.shape.base_low h.left_is.few))
 
 pub pair_table : (op : Op) (a b : Table) (m : TrackLists) (limit base tracks : ℕ) (k : KeyTable) (u : Kept) → IsExplored (pairs a b m) limit k → u ≡ plain (laid base tracks k (answered (pair_says op a b) k.keys)) → IsPairTable op a b m limit u.table
 pair_table op a b m limit base tracks k u e is = record {

@@ -143,7 +143,8 @@ pub sign_reading_in : (o : Operand) (ls ss : List ℕ) → IsReading o ls ss →
 sign_reading_in o ls ss h s x lt is = subst (λ y. y < 2 ^ o.table.tracks) (sym is) (All-from_get_or (λ y. y < 2 ^ o.table.tracks) ss 0 (λ i inside. sign_reading o ls ss h i (subst (λ n. i < n) h.signs_read.count inside)) s x (subst (λ n. s < n) (sym h.signs_read.count) lt))
 
 -- ---- the values of what is read
-spelled_read : (r n : ℕ) (places : List ℕ) (i : ℕ) (w : List ℕ) → 0 < r → All (λ p. p < n) places → i < length places → AllByRecursion (λ l. l < r ^ n) w → spelled r (length places) i (map (read_by r n places) w) ≡ spelled r n (slice_index places i) w
+pub spelled_read : (r n : ℕ) (places : List ℕ) (i : ℕ) (w : List ℕ) → 0 < r → All (λ p. p < n) places → i < length places → AllByRecursion (λ l. l < r ^ n)
+    w → spelled r (length places) i (map (read_by r n places) w) ≡ spelled r n (slice_index places i) w
 unfolding spelled
 spelled_read r n places i [] b h inside a = refl
 spelled_read r n places i (l ∷ w) b h inside a =
@@ -151,7 +152,9 @@ spelled_read r n places i (l ∷ w) b h inside a =
     ∙ ap (λ k. digit r n (slice_index places i) l * r ^ k + spelled r (length places) i (map (read_by r n places) w)) (length-map w (read_by r n places))
     ∙ ap (λ s. digit r n (slice_index places i) l * r ^ length w + s) (spelled_read r n places i w b h inside a.1)
 
-value_read : (r n : ℕ) (places : List ℕ) (i sign : ℕ) (w : List ℕ) → 0 < r → All (λ p. p < n) places → i < length places → sign < 2 ^ n → AllByRecursion (λ l. l < r ^ n) w → value r (length places) i (read_by 2 n places sign) (map (read_by r n places) w) ≡ value r n (slice_index places i) sign w
+pub value_read : (r n : ℕ) (places : List ℕ) (i sign : ℕ) (w : List ℕ) → 0 < r → All (λ p. p < n) places → i < length places → sign < 2 ^ n
+    → AllByRecursion (λ l. l < r ^ n) w → value r (length places) i (read_by 2 n places sign) (map (read_by r n places) w) ≡ value r n
+    (slice_index places i) sign w
 unfolding value sign_bit
 value_read r n places i sign w b h inside lt a =
     ap (λ s. pos s -ℤ pos (digit 2 (length places) i (read_by 2 n places sign) * r ^ length (map (read_by r n places) w))) (spelled_read r n places i w b h inside a)
@@ -172,8 +175,15 @@ map_same : (f g : ℕ → ℤ) (n : ℕ) (places : List ℕ) → ((p : ℕ) → 
 map_same f g n [] e a = refl
 map_same f g n (x ∷ xs) e a = ap (λ y. y ∷ map f xs) (e x a.0) ∙ ap (λ ys. g x ∷ ys) (map_same f g n xs e a.1)
 
+-- the entries at places are those of a vector that has them in these places
+pub picked_vector : (f g : ℕ → ℤ) (n : ℕ) (places : List ℕ) → All (λ p. p < n) places → ((i : ℕ) → i < length places → f i ≡ g (slice_index places i))
+    → vector f (length places) ≡ pick_entries places (vector g n)
+picked_vector f g n places h same =
+    vector_from_same f (λ i. g (slice_index places i)) 0 (length places) (λ j from to. same j (omega (arith, to)))
+    ∙ vector_of g places
+    ∙ map_same g (λ p. slice_index_or (vector g n) p (pos 0)) n places (λ p inside. sym (entry-vector g n p inside)) (recursion_from_All (λ i. i < n) places h)
+
 pub values_read : (r n : ℕ) (places : List ℕ) (sign : ℕ) (w : List ℕ) → 0 < r → All (λ p. p < n) places → sign < 2 ^ n → All (λ l. l < r ^ n) w → values r (length places) (read_by 2 n places sign) (map (read_by r n places) w) ≡ pick_entries places (values r n sign w)
 values_read r n places sign w b h lt a =
-    vector_from_same (λ i. value r (length places) i (read_by 2 n places sign) (map (read_by r n places) w)) (λ i. value r n (slice_index places i) sign w) 0 (length places) (λ j from to. value_read r n places j sign w b h (omega (arith, to)) lt (recursion_from_All (λ l. l < r ^ n) w a))
-    ∙ vector_of (λ p. value r n p sign w) places
-    ∙ map_same (λ p. value r n p sign w) (λ p. slice_index_or (values r n sign w) p (pos 0)) n places (λ p inside. sym (entry-vector (λ i. value r n i sign w) n p inside)) (recursion_from_All (λ i. i < n) places h)
+    picked_vector (λ i. value r (length places) i (read_by 2 n places sign) (map (read_by r n places) w)) (λ p. value r n p sign w) n places h
+    (λ i inside. value_read r n places i sign w b h inside lt (recursion_from_All (λ l. l < r ^ n) w a))

@@ -1,4 +1,6 @@
 pub mod Tracks
 pub mod Operations
 pub mod Pairs
+pub mod FractionPairs
+pub mod ReadLassos
 pub mod Negation

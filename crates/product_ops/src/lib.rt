@@ -1,6 +1,7 @@
-//! Truth functions of automata over integers: the product of two diagrams, and the complement of one.
+//! Truth functions of automata: the product of two, and the complement of one.
 #![tactic(auto)]
 
+mod fraction_pairs;
 mod laws;
 mod negation;
 mod operation;
@@ -10,7 +11,7 @@ mod reading;
 mod synchronous;
 mod track_map;
 
-pub use laws::{heavy_or_pairs, operands_read_words};
+pub use laws::{heavy_or_mixed_pairs, heavy_or_pairs, operands_read_lassos, operands_read_words};
 pub use negation::complement;
 pub use operation::Op;
 pub use synchronous::product;

@@ -1,26 +1,25 @@
-//! The pairs of states of two diagrams that read one word (the synchronous product of Rabin and Scott), as a machine to be explored.
+//! The pairs of integer states of two automata that read one word (the synchronous product of Rabin and Scott), as a machine to be
+//! explored.
 
-ghost use Rattle.std.specs.Prelude.{◌≡◌, ◌^◌, ◌≤◌, [], ◌∷◌, length, IfOk, OnOk};
-ghost use Rattle.product_ops.specs.Pairs.{pair, left_operand, right_operand, AreOperands};
+ghost use Rattle.std.specs.Prelude.{◌≡◌, [], ◌∷◌, OnOk};
+ghost use Rattle.product_ops.specs.Pairs.{pair, AreOperands};
 
-use crate::TrackMap;
 use crate::reading::Reader;
 use lash_io::Memory;
 use packed_cells::Cells;
-use std::alloc::Global;
 use std::marker::Model;
-use step_tables::{Key, Machine, Table};
+use step_tables::{Key, Machine};
 
 /// The entries of a pair's key, which are its weight.
-const ENTRIES: u64 = 2;
+pub(crate) const ENTRIES: u64 = 2;
 
-/// Two diagrams of one base, each with the tracks that it reads of the result.
+/// Two automata of one base, each with the tracks that it reads of the result.
 #[derive(Drop)]
 pub struct Pairs<'a, A: Cells, B: Cells> {
     width: u32,
     signs: usize,
-    left: Reader<'a, A>,
-    right: Reader<'a, B>,
+    left: &'a Reader<'a, A>,
+    right: &'a Reader<'a, B>,
 }
 
 impl<'a, A: Cells, B: Cells> Model for Pairs<'a, A, B> {
@@ -28,13 +27,13 @@ impl<'a, A: Cells, B: Cells> Model for Pairs<'a, A, B> {
 
     ghost Value = { Operands };
 
-    ghost view = { λ p. record { left = p.left; right = p.right } };
+    ghost view = { λ p. record { left = p.left.now; right = p.right.now } };
 
-    ghost invariant = { λ p. IsCounted p.width p.signs (record { left = p.left; right = p.right }) };
+    ghost invariant = { λ p. IsCounted p.width p.signs (record { left = p.left.now; right = p.right.now }) };
 }
 
 /// Writes the key of a pair.
-fn write_pair(left: u32, right: u32, into: &mut Key) -> Result<(), Memory>
+pub(crate) fn write_pair(left: u32, right: u32, into: &mut Key) -> Result<(), Memory>
     ensures { OnOk result (into.new.items ≡ pair left right) }
 {
     if into.len() == 2 {
@@ -51,36 +50,17 @@ fn write_pair(left: u32, right: u32, into: &mut Key) -> Result<(), Memory>
 }
 
 impl<'a, A: Cells, B: Cells> Pairs<'a, A, B> {
-    /// The pairs of two diagrams, read by a map of tracks.
-    pub fn new(
-        alloc: Global,
-        left: &'a Table<A>,
-        right: &'a Table<B>,
-        map: &'a TrackMap,
-    ) -> Result<Self, Memory>
-        requires base { left.now.table.base ≡ right.now.table.base }
-        requires left_tracks { length map.now.left ≡ left.now.table.tracks }
-        requires right_tracks { length map.now.right ≡ right.now.table.tracks }
-        requires letters { left.now.table.base ^ map.now.tracks ≤ 4096 }
-        ensures value { IfOk result (λ p. p ≡ record { left = left_operand left.now.table map.now; right = right_operand right.now.table map.now }) }
-        ensures operands { IfOk result (λ _. AreOperands (record { left = left_operand left.now.table map.now; right = right_operand right.now.table map.now })) }
+    /// The pairs of two automata of one base that read tracks of one result.
+    pub fn new(left: &'a Reader<'a, A>, right: &'a Reader<'a, B>) -> Self
+        requires { AreOperands (record { left = left.now; right = right.now }) }
+        ensures { result ≡ record { left = left.now; right = right.now } }
     {
-        let tracks = map.tracks();
-        let width = left.base().radix().pow(tracks);
-        let left = match Reader::new(alloc, left, tracks, map.left()) {
-            Ok(left) => left,
-            Err(Memory) => return Err(Memory),
-        };
-        let right = match Reader::new(alloc, right, tracks, map.right()) {
-            Ok(right) => right,
-            Err(Memory) => return Err(Memory),
-        };
-        Ok(Pairs {
-            width,
-            signs: 2usize.pow(tracks),
+        Pairs {
+            width: left.letters(),
+            signs: left.signs(),
             left,
             right,
-        })
+        }
     }
 }
 

@@ -2,9 +2,10 @@
 //! look-up.
 
 ghost use Rattle.std.specs.Prelude.{◌≡◌, ◌+◌, ◌*◌, ◌^◌, ◌<◌, ◌≤◌, ℕ, length, slice_index, IfOk};
-ghost use Rattle.lash_model.specs.Tables.{letters, ints};
-ghost use Rattle.product_ops.specs.Tracks.{AreTracks, read_by, AreRead};
+ghost use Rattle.lash_model.specs.Tables.{letters, ints, fracs};
+ghost use Rattle.product_ops.specs.FractionPairs.{fraction_step_by};
 ghost use Rattle.product_ops.specs.Pairs.{IsOperand, root_by, step_by};
+ghost use Rattle.product_ops.specs.Tracks.{AreTracks, read_by, AreRead};
 
 use digit_codes::{Base, letter_digit};
 use lash_io::Memory;
@@ -56,7 +57,7 @@ fn sign_base() -> Base
     }
 }
 
-/// A diagram that reads some of a result's tracks.
+/// An automaton that reads some of a result's tracks.
 #[derive(Drop)]
 pub struct Reader<'a, C: Cells> {
     table: &'a Table<C>,
@@ -77,7 +78,7 @@ impl<'a, C: Cells> Model for Reader<'a, C> {
 }
 
 impl<'a, C: Cells> Reader<'a, C> {
-    /// A diagram that reads distinct tracks, as many as it has, out of so many.
+    /// An automaton that reads distinct tracks, as many as it has, out of so many.
     pub fn new(
         alloc: Global,
         table: &'a Table<C>,
@@ -108,9 +109,28 @@ impl<'a, C: Cells> Reader<'a, C> {
         })
     }
 
-    /// The number of states.
+    /// The number of the result's letters.
+    pub fn letters(&self) -> u32
+        ensures { result ≡ self.now.table.base ^ self.now.tracks }
+    {
+        self.letters.len() as u32
+    }
+
+    /// The number of the result's sign vectors.
+    pub fn signs(&self) -> usize
+        ensures { result ≡ 2 ^ self.now.tracks }
+    {
+        self.signs.len()
+    }
+
+    /// The number of integer states.
     pub fn states(&self) -> u32 {
         self.table.ints()
+    }
+
+    /// The number of fraction states.
+    pub fn fraction_states(&self) -> u32 {
+        self.table.fracs()
     }
 
     /// The root for a sign vector of the result.
@@ -122,7 +142,7 @@ impl<'a, C: Cells> Reader<'a, C> {
         self.table.root(self.signs[sign])
     }
 
-    /// Where a state goes on a letter of the result.
+    /// Where an integer state goes on a letter of the result.
     pub fn step(&self, state: u32, letter: u32) -> u32
         requires state { state < ints self.now.table }
         requires letter { letter < self.now.table.base ^ self.now.tracks }
@@ -130,5 +150,25 @@ impl<'a, C: Cells> Reader<'a, C> {
         ensures below { result < ints self.now.table }
     {
         self.table.int_step(state, self.letters[letter as usize])
+    }
+
+    /// The output of an integer state, if it is a fraction state.
+    pub fn out(&self, state: u32) -> u32
+        requires state { state < ints self.now.table }
+        requires fractions { 0 < fracs self.now.table }
+        ensures value { result ≡ slice_index self.now.table.outs state }
+        ensures below { result < fracs self.now.table }
+    {
+        self.table.out(state)
+    }
+
+    /// Where a fraction state goes on a letter of the result.
+    pub fn fraction_step(&self, state: u32, letter: u32) -> u32
+        requires state { state < fracs self.now.table }
+        requires letter { letter < self.now.table.base ^ self.now.tracks }
+        ensures value { result ≡ fraction_step_by self.now state letter }
+        ensures below { result < fracs self.now.table }
+    {
+        self.table.frac_step(state, self.letters[letter as usize])
     }
 }

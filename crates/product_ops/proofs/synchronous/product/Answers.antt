@@ -1,49 +1,54 @@
-use Rattle.std.proofs.Common.{arith, ◌∙◌, ap}
+use Rattle.std.proofs.Common.{◌<◌, ℕ}
+use Rattle.std.specs.Prelude.{IfOk}
+use Rattle.std.proofs.lemmas.Result.{IfOk-weaker}
 use Rattle.lash_model.specs.Sets.{set_of}
-use Rattle.product_ops.specs.Pairs.{left_operand, right_operand}
-use Rattle.step_tables.specs.Kept.{Kept}
-use Rattle.product_ops.proofs.PairRuns.{answers, starts_of, pair_table}
-use Rattle.product_ops.proofs.Joining.{reads_picked, product_stands}
+use Rattle.product_ops.proofs.Outcomes.{OfDiagrams, OfWeakTables, of_diagrams, of_weak_tables, words_of, stands_of, fractions_of, weak_of, lassos_of}
+use Rattle.product_ops.proofs.Outcomes.{stands_mixed_of}
 use Rattle.product_ops.proofs.synchronous.product.Goals as goal
 
-pub of_explored-requires-clause-few : goal.of_explored-requires-clause-few
-of_explored-requires-clause-few g c = rw (c.base.ensures, c.tracks.ensures) c.requires.letters
+pub returns-then-fracs-eq0-clause-words : goal.returns-then-fracs-eq0-clause-words
+returns-then-fracs-eq0-clause-words g c =
+    IfOk-weaker c.of_diagrams.result (λ t. OfDiagrams c.args.op c.args.left.now.table c.args.right.now.table c.args.map.now c.args.limit t.table) _
+    (λ t h _. words_of c.args.op c.args.left.now.table c.args.right.now.table c.args.map.now c.args.limit t.table h)
+    (of_diagrams c.of_diagrams.result c.args.op c.args.left.now.table c.args.right.now.table c.args.map.now c.args.limit
+    c.of_diagrams.ensures.operands c.of_diagrams.ensures.diagram c.of_diagrams.ensures.base c.of_diagrams.ensures.tracks c.of_diagrams.ensures.pairs)
 
-pub of_explored-requires-clause-width : goal.of_explored-requires-clause-width
-of_explored-requires-clause-width g c = rw (c.base.ensures, c.tracks.ensures) c.in-Ok.ensures.explored.width
+pub returns-then-fracs-eq0-clause-stands : goal.returns-then-fracs-eq0-clause-stands
+returns-then-fracs-eq0-clause-stands g c =
+    IfOk-weaker c.of_diagrams.result (λ t. OfDiagrams c.args.op c.args.left.now.table c.args.right.now.table c.args.map.now c.args.limit t.table) _
+    (λ t h _ f k s u. stands_of c.args.op c.args.left.now.table c.args.right.now.table c.args.map.now c.args.limit t.table h (set_of f s) (set_of k u))
+    (of_diagrams c.of_diagrams.result c.args.op c.args.left.now.table c.args.right.now.table c.args.map.now c.args.limit
+    c.of_diagrams.ensures.operands c.of_diagrams.ensures.diagram c.of_diagrams.ensures.base c.of_diagrams.ensures.tracks c.of_diagrams.ensures.pairs)
 
-pub of_explored-requires-clause-starts : goal.of_explored-requires-clause-starts
-of_explored-requires-clause-starts g c = rw c.tracks.ensures (starts_of c.args.left.now.table c.args.right.now.table c.args.map.now c.args.limit c.in-Ok.found c.in-Ok.ensures.explored)
+pub returns-clause-fractions : goal.returns-clause-fractions
+returns-clause-fractions g c =
+    IfOk-weaker c.of_weak_tables.result (λ t. OfWeakTables c.args.op c.args.left.now.table c.args.right.now.table c.args.map.now c.args.limit t.table) _
+    (λ t h _. fractions_of c.args.op c.args.left.now.table c.args.right.now.table c.args.map.now c.args.limit t.table h)
+    (of_weak_tables c.of_weak_tables.result c.args.op c.args.left.now.table c.args.right.now.table c.args.map.now c.args.limit
+    c.of_weak_tables.ensures.operands c.of_weak_tables.ensures.table c.of_weak_tables.ensures.base c.of_weak_tables.ensures.tracks
+    c.of_weak_tables.ensures.mixed_pairs)
 
-pub of_explored-requires-clause-cells : goal.of_explored-requires-clause-cells
-of_explored-requires-clause-cells g c = omega (arith, c.in-Ok.ensures.explored.within, c.requires.limit)
+pub returns-clause-weak : goal.returns-clause-weak
+returns-clause-weak g c =
+    IfOk-weaker c.of_weak_tables.result (λ t. OfWeakTables c.args.op c.args.left.now.table c.args.right.now.table c.args.map.now c.args.limit t.table) _
+    (λ t h some. weak_of c.args.op c.args.left.now.table c.args.right.now.table c.args.map.now c.args.limit t.table c.requires.kinds some h)
+    (of_weak_tables c.of_weak_tables.result c.args.op c.args.left.now.table c.args.right.now.table c.args.map.now c.args.limit
+    c.of_weak_tables.ensures.operands c.of_weak_tables.ensures.table c.of_weak_tables.ensures.base c.of_weak_tables.ensures.tracks
+    c.of_weak_tables.ensures.mixed_pairs)
 
-pub returns-in-Ok-of_explored-clause-pairs : goal.returns-in-Ok-of_explored-clause-pairs
-returns-in-Ok-of_explored-clause-pairs g c = pair_table c.args.op c.args.left.now.table c.args.right.now.table c.args.map.now c.args.limit c.base.result c.tracks.result c.in-Ok.found c.in-Ok-of_explored.made c.in-Ok.ensures.explored c.in-Ok-of_explored.ensures.laid
+pub returns-clause-lassos : goal.returns-clause-lassos
+returns-clause-lassos g c =
+    IfOk-weaker c.of_weak_tables.result (λ t. OfWeakTables c.args.op c.args.left.now.table c.args.right.now.table c.args.map.now c.args.limit t.table) _
+    (λ t h some. lassos_of c.args.op c.args.left.now.table c.args.right.now.table c.args.map.now c.args.limit t.table c.requires.kinds some h)
+    (of_weak_tables c.of_weak_tables.result c.args.op c.args.left.now.table c.args.right.now.table c.args.map.now c.args.limit
+    c.of_weak_tables.ensures.operands c.of_weak_tables.ensures.table c.of_weak_tables.ensures.base c.of_weak_tables.ensures.tracks
+    c.of_weak_tables.ensures.mixed_pairs)
 
-pub returns-in-Ok-of_explored-clause-words : goal.returns-in-Ok-of_explored-clause-words
-returns-in-Ok-of_explored-clause-words g c =
-    answers c.args.op c.args.left.now.table c.args.right.now.table c.args.map.now c.args.limit c.in-Ok-of_explored.made.table
-    (pair_table c.args.op c.args.left.now.table c.args.right.now.table c.args.map.now c.args.limit c.base.result c.tracks.result c.in-Ok.found c.in-Ok-of_explored.made c.in-Ok.ensures.explored c.in-Ok-of_explored.ensures.laid)
-    (ap (λ (v : Kept). v.table.base) c.in-Ok-of_explored.ensures.laid ∙ c.base.ensures)
-    (ap (λ (v : Kept). v.table.tracks) c.in-Ok-of_explored.ensures.laid ∙ c.tracks.ensures)
-
-pub returns-in-Ok-of_explored-clause-stands : goal.returns-in-Ok-of_explored-clause-stands
-returns-in-Ok-of_explored-clause-stands g c = λ f h s u p q.
-    let base = ap (λ (v : Kept). v.table.base) c.in-Ok-of_explored.ensures.laid ∙ c.base.ensures in
-    let tracks = ap (λ (v : Kept). v.table.tracks) c.in-Ok-of_explored.ensures.laid ∙ c.tracks.ensures in
-    product_stands c.args.op c.args.left.now.table c.args.right.now.table c.args.map.now c.in-Ok-of_explored.made.table
-    (reads_picked (left_operand c.args.left.now.table c.args.map.now) c.in-Ok.ensures.operands.left_is)
-    (reads_picked (right_operand c.args.right.now.table c.args.map.now) c.in-Ok.ensures.operands.right_is)
-    c.requires.base
-    base
-    tracks
-    (ap (λ (v : Kept). v.table.colours) c.in-Ok-of_explored.ensures.laid)
-    (answers c.args.op c.args.left.now.table c.args.right.now.table c.args.map.now c.args.limit c.in-Ok-of_explored.made.table
-    (pair_table c.args.op c.args.left.now.table c.args.right.now.table c.args.map.now c.args.limit c.base.result c.tracks.result c.in-Ok.found c.in-Ok-of_explored.made c.in-Ok.ensures.explored c.in-Ok-of_explored.ensures.laid)
-    base
-    tracks)
-    (set_of f s)
-    (set_of h u)
-    p
-    q
+pub returns-clause-stands_mixed : goal.returns-clause-stands_mixed
+returns-clause-stands_mixed g c =
+    IfOk-weaker c.of_weak_tables.result (λ t. OfWeakTables c.args.op c.args.left.now.table c.args.right.now.table c.args.map.now c.args.limit t.table) _
+    (λ t h some f k s u. stands_mixed_of c.args.op c.args.left.now.table c.args.right.now.table c.args.map.now c.args.limit t.table c.requires.kinds some h
+    (set_of f s) (set_of k u))
+    (of_weak_tables c.of_weak_tables.result c.args.op c.args.left.now.table c.args.right.now.table c.args.map.now c.args.limit
+    c.of_weak_tables.ensures.operands c.of_weak_tables.ensures.table c.of_weak_tables.ensures.base c.of_weak_tables.ensures.tracks
+    c.of_weak_tables.ensures.mixed_pairs)

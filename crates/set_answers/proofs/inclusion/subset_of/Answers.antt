@@ -16,6 +16,6 @@ pub returns-in-Ok-product-clause-includes : goal.returns-in-Ok-product-clause-in
 returns-in-Ok-product-clause-includes c = λ n f g.
     subset_is c.args.left.now.table c.args.right.now.table c.in-Ok-product.difference.table c.in-Ok.map c.tracks.result n c.args.limit f g c.says_no.result
     c.requires.left c.requires.right c.requires.base c.requires.tracks c.tracks.ensures c.in-Ok.ensures
-    c.in-Ok-product.ensures.table c.in-Ok-product.ensures.base c.in-Ok-product.ensures.tracks c.in-Ok-product.ensures.pairs
-    (λ P Q. c.in-Ok-product.ensures.stands P Q (λ ns. ns) (λ ns. ns))
+    c.in-Ok-product.ensures.table c.in-Ok-product.ensures.base c.in-Ok-product.ensures.tracks (c.in-Ok-product.ensures.pairs c.requires.left.diagram)
+    (λ P Q. c.in-Ok-product.ensures.stands c.requires.left.diagram P Q (λ ns. ns) (λ ns. ns))
     c.says_no.ensures
