@@ -5,6 +5,8 @@ ghost use Rattle.lash_model.specs.Tables.{IsDiagram};
 ghost use Rattle.step_tables.specs.Kept.{wide};
 ghost use Rattle.product_ops.specs.Tracks.{AreTracks};
 
+mod weak;
+
 use super::*;
 use digit_codes::Base;
 use lash_io::Memory;
