@@ -1,11 +1,11 @@
 -- The table of the truth function of two answers stands for the truth function of the sets.
-use Rattle.std.proofs.Common.{◌≡◌, ℕ, ◌^◌, ◌<◌, ◌≤◌, ◌↔◌, Bool, true, false, IsTrue, List, [], ◌∷◌, length, map, arith, refl, ◌∙◌, sym, ap, subst, inl, inr}
+use Rattle.std.proofs.Common.{◌≡◌, ℕ, ◌^◌, ◌<◌, ◌↔◌, Bool, true, false, IsTrue, List, length, map, arith, refl, ◌∙◌, sym, ap, subst, inl, inr}
 use Rattle.std.specs.Prelude.{All}
 use Rattle.std.specs.List.{slice_index_or}
 use Rattle.std.proofs.Math.IntN.{ℤ}
 use Rattle.std.proofs.lemmas.List.{get_or-map, length-map}
 use Rattle.lash_model.specs.Words.{values}
-use Rattle.lash_model.specs.Tables.{Table, letters, IsTable, IsDiagram}
+use Rattle.lash_model.specs.Tables.{Table, IsDiagram}
 use Rattle.lash_model.specs.Standing.{StandsForWhole}
 use Rattle.lash_model.specs.Acceptance.{accepts_word}
 use Rattle.product_ops.specs.Tracks.{TrackLists, pick_entries, read_by}

@@ -7,7 +7,7 @@ use Rattle.std.proofs.lemmas.List.Elements.{recursion_from_All}
 use Rattle.lash_model.specs.Lassos.{Lasso, IsLasso, denominator, numerator, numerators}
 use Rattle.lash_model.specs.Words.{spelled, value}
 use Rattle.part_laws.specs.MixedPairs.{read_lasso, ReadsInRange}
-use Rattle.product_ops.specs.Tracks.{pick_entries, read_by}
+use Rattle.product_ops.specs.Tracks.{read_by}
 use Rattle.product_ops.specs.Pairs.{Operand, IsOperand}
 use Rattle.product_ops.specs.ReadLassos.{side_of, ReadsPickedLassos}
 use Rattle.product_ops.proofs.TrackReading.{read_in, spelled_read, value_read, picked_vector}

@@ -5,5 +5,5 @@ pub mod LassoReading
 pub mod MixedJoining
 pub mod PairsInTwo
 pub mod Outcomes
-pub mod RisingParts
+pub mod TestTables
 pub mod Exchanging

@@ -1,5 +1,5 @@
 -- The table of the truth function of two answers to lassos stands for the truth function of the sets.
-use Rattle.std.proofs.Common.{◌≡◌, ℕ, ◌<◌, ◌↔◌, IsTrue, List, ◌∙◌, sym, ap, subst}
+use Rattle.std.proofs.Common.{◌≡◌, ℕ, ◌<◌, ◌↔◌, IsTrue, List, sym, subst}
 use Rattle.std.proofs.Math.IntN.{ℤ}
 use Rattle.lash_model.specs.Lassos.{Lasso, IsLasso, denominator, numerators}
 use Rattle.lash_model.specs.Tables.{Table, fracs}

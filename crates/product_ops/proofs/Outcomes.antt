@@ -1,5 +1,5 @@
 -- What follows of a product's table from what its makers say of it.
-use Rattle.std.proofs.Common.{◌≡◌, ℕ, ◌<◌, Ok, Err, List, [], length, ap, subst, arith, inl, inr}
+use Rattle.std.proofs.Common.{◌≡◌, ℕ, ◌<◌, Ok, Err, List, length, ap, arith, inl, inr}
 use Rattle.std.specs.Prelude.{Result, IfOk}
 use Rattle.std.proofs.Math.IntN.{ℤ}
 use Rattle.lash_model.specs.Tables.{Table, letters, fracs, IsTable, IsDiagram}

@@ -1,12 +1,11 @@
 -- The table of the pairs of both parts: it is what part_laws calls the table of explored pairs, so it is weak, and accepts by the truth
 -- function of what the operands accept.
-use Rattle.std.proofs.Common.{◌≡◌, ℕ, ◌-◌, ◌^◌, ◌<◌, ◌≤◌, IsTrue, List, [], length, map, arith, refl, ◌∙◌, sym, ap, subst}
+use Rattle.std.proofs.Common.{◌≡◌, ℕ, ◌-◌, ◌<◌, IsTrue, List, length, map, arith, refl, ◌∙◌, sym, ap, subst}
 use Rattle.std.specs.Prelude.{All}
 use Rattle.std.proofs.lemmas.List.{length-map}
 use Rattle.std.proofs.lemmas.Option.{slice_get_within}
-use Rattle.graph_laws.specs.Exploring.{Steps, KeyTable, list_at, led_by, IsHeavyInTwo, IsExplored, IsExploredInTwo}
+use Rattle.graph_laws.specs.Exploring.{KeyTable, list_at, led_by, IsHeavyInTwo, IsExplored}
 use Rattle.graph_laws.proofs.Weighing.{not_in_two}
-use Rattle.lash_model.specs.Lassos.{Lasso}
 use Rattle.lash_model.specs.Tables.{Table, letters, ints, fracs, IsTable}
 use Rattle.part_laws.specs.CanonicalMixed.{fraction_graph}
 use Rattle.part_laws.specs.Graphs.{IsWeak}

@@ -1,6 +1,6 @@
 -- The pairs of fraction states of two tables with fraction states, which start at the outputs of the reached pairs of integer states (the
 -- synchronous product), as a machine whose keys are pairs; and the table of both parts.
-use Rattle.std.specs.Prelude.{◌≡◌, ℕ, ◌+◌, ◌*◌, ◌^◌, ◌<◌, Bool, ◌⊎◌, List, [], ◌∷◌, length, slice_index, map, All, IsTrue}
+use Rattle.std.specs.Prelude.{◌≡◌, ℕ, ◌+◌, ◌*◌, ◌^◌, ◌<◌, Bool, ◌⊎◌, List, [], length, slice_index, map, All, IsTrue}
 use Rattle.graph_laws.specs.Exploring.{Steps, KeyTable, IsExploredInTwo}
 use Rattle.lash_model.specs.Tables.{Table, letters, ints, fracs, IsDiagram}
 use Rattle.part_laws.specs.Graphs.{is_yes, IsWeak}

@@ -1,5 +1,5 @@
 -- What an operand reads of a lasso of the result, and the truth function of what two operands accept of what they read.
-use Rattle.std.specs.Prelude.{◌≡◌, ℕ, Bool}
+use Rattle.std.specs.Prelude.{◌≡◌, Bool}
 use Rattle.lash_model.specs.Lassos.{Lasso, IsLasso, numerators, denominator}
 use Rattle.lash_model.specs.Tables.{Table}
 use Rattle.lash_model.specs.Acceptance.{accepts_lasso}

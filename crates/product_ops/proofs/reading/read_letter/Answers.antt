@@ -1,4 +1,4 @@
-use Rattle.std.proofs.Common.{rules, arith, ◌≡◌, ◌+◌, ◌*◌, ◌<◌, ◌≤◌, ◌∙◌, ap, refl, length, slice_index, take}
+use Rattle.std.proofs.Common.{arith, ◌≡◌, ◌<◌, ◌∙◌, ap, refl, length, slice_index, take}
 use Rattle.lash_model.specs.Letters.{digits, number}
 use Rattle.product_ops.specs.Tracks.{pick}
 use Rattle.product_ops.proofs.TrackReading.{place_in, digit_below, room, turn, all_read}

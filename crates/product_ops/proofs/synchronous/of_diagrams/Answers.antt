@@ -1,4 +1,4 @@
-use Rattle.std.proofs.Common.{◌≡◌, ◌∙◌, sym, subst}
+use Rattle.std.proofs.Common.{subst}
 use Rattle.graph_laws.specs.Exploring.{Steps, IsExplored}
 use Rattle.product_ops.proofs.PairRuns.{machine_of, few_starts, starts_of, pair_table}
 use Rattle.product_ops.specs.Pairs.{pairs}

@@ -1,4 +1,4 @@
-use Rattle.std.proofs.Common.{◌≡◌, ◌-◌, ◌∙◌, sym, ap, subst}
+use Rattle.std.proofs.Common.{◌-◌, subst}
 use Rattle.graph_laws.specs.Exploring.{Steps, IsExplored, IsHeavy, led_by}
 use Rattle.graph_laws.proofs.Weighing.{heavy_at_first, heavy_at_second}
 use Rattle.product_ops.specs.Pairs.{pairs}

@@ -1,5 +1,3 @@
-use Rattle.std.proofs.Common.{◌<◌, ℕ}
-use Rattle.std.specs.Prelude.{IfOk}
 use Rattle.std.proofs.lemmas.Result.{IfOk-weaker}
 use Rattle.lash_model.specs.Sets.{set_of}
 use Rattle.product_ops.proofs.Outcomes.{OfDiagrams, OfWeakTables, of_diagrams, of_weak_tables, words_of, stands_of, fractions_of, weak_of, lassos_of}

@@ -1,6 +1,6 @@
 use Rattle.std.proofs.Common.{arith, ◌≡◌, ◌<◌}
 use Rattle.lash_model.specs.Tables.{fracs}
-use Rattle.product_ops.proofs.RisingParts.{rising_weak}
+use Rattle.product_ops.proofs.TestTables.{rising_weak}
 use Rattle.product_ops.proofs.tests.weak.is_rising.Goals as goal
 
 pub returns : goal.returns

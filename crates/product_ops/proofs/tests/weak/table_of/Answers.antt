@@ -1,5 +1,5 @@
 use Rattle.std.proofs.Common.{arith, length}
-use Rattle.product_ops.proofs.RisingParts.{small_shape}
+use Rattle.product_ops.proofs.TestTables.{small_shape}
 use Rattle.product_ops.proofs.tests.weak.table_of.Goals as goal
 
 pub blank-requires : goal.blank-requires
