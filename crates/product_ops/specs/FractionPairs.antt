@@ -19,7 +19,7 @@ pub record IsWeakTable (t : Table) : Type 0 where
 abbrev pub AreOneKind : Table → Table → Type 0
 AreOneKind a b = (IsDiagram a × IsDiagram b) ⊎ (IsWeakTable a × IsWeakTable b)
 
--- where a fraction state of an operand goes on a letter of the result
+-- the fraction state of an operand to which a letter of the result leads from one
 abbrev pub fraction_step_by : Operand → ℕ → ℕ → ℕ
 fraction_step_by o q l = slice_index o.table.frac_rows (q * letters o.table + read_by o.table.base o.tracks o.places l)
 

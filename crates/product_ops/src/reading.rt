@@ -142,7 +142,7 @@ impl<'a, C: Cells> Reader<'a, C> {
         self.table.root(self.signs[sign])
     }
 
-    /// Where an integer state goes on a letter of the result.
+    /// The integer state to which a letter of the result leads from one.
     pub fn step(&self, state: u32, letter: u32) -> u32
         requires state { state < ints self.now.table }
         requires letter { letter < self.now.table.base ^ self.now.tracks }
@@ -162,7 +162,7 @@ impl<'a, C: Cells> Reader<'a, C> {
         self.table.out(state)
     }
 
-    /// Where a fraction state goes on a letter of the result.
+    /// The fraction state to which a letter of the result leads from one.
     pub fn fraction_step(&self, state: u32, letter: u32) -> u32
         requires state { state < fracs self.now.table }
         requires letter { letter < self.now.table.base ^ self.now.tracks }

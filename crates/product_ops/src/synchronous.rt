@@ -162,8 +162,9 @@ fn of_weak_tables<A: Cells, B: Cells>(
 /// have, and is then weak.
 ///
 /// The tables have one base, the map's lists have as many entries as they have tracks, the base to the map's number of tracks is at most
-/// 4,096, and the limit of cells is at most 16,777,216. `Heavy` comes exactly where the pairs of states that are reached, of both parts
-/// together, have more cells than the limit: for each the number of letters, one, and its two entries. `Memory` where memory runs out.
+/// 4,096, and the limit of cells is at most 16,777,216. `Heavy` comes exactly if the pairs of states that are reached, of both parts
+/// together, have more cells than the limit: for each the number of letters, one, and its two entries. `Memory` comes if the program is
+/// out of memory. The method is the synchronous product of Rabin and Scott (1959).
 pub fn product<A: Cells, B: Cells>(
     alloc: Global,
     left: &Table<A>,
