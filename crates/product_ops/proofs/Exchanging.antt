@@ -1,6 +1,6 @@
 -- Exchanging outputs, one by one, and what the exchanged diagram accepts.
 use Rattle.std.proofs.Common.{◌≡◌, ℕ, zero, suc, ◌+◌, ◌-◌, ◌*◌, ◌^◌, ◌≤◌, ◌<◌, ◌↔◌, Bool, true, false, not, IsTrue, List, [], ◌∷◌, ◌++◌, length, map, take, drop, arith, refl, ◌∙◌, sym, ap, subst, add-one}
-use Rattle.std.specs.Prelude.{slice_set, slice_index, nat_eq, All}
+use Rattle.std.specs.Prelude.{slice_set, slice_index, nat_eq, if◌then◌else◌, All}
 use Rattle.std.specs.List.{slice_index_or, AllByRecursion}
 use Rattle.std.proofs.Math.IntN.{ℤ}
 use Rattle.std.proofs.lemmas.List.{get_or-map, length-map}
@@ -9,9 +9,12 @@ use Rattle.graph_laws.specs.Walks.{go}
 use Rattle.canonical_laws.specs.Canonical.{IsNumbered, IsCanonical}
 use Rattle.canonical_laws.proofs.Diagrams.{read_below, place_within, out_below}
 use Rattle.lash_model.specs.Words.{values}
+use Rattle.lash_model.specs.Lassos.{numerators, denominator}
 use Rattle.lash_model.specs.Tables.{Table, letters, ints, IsTable, IsDiagram}
-use Rattle.lash_model.specs.Acceptance.{int_state, accepts_word}
-use Rattle.lash_model.specs.Standing.{StandsForWhole}
+use Rattle.lash_model.specs.Acceptance.{int_state, accepts_word, accepts_lasso}
+use Rattle.lash_model.specs.Standing.{StandsForWhole, StandsForMixed}
+use Rattle.part_laws.specs.Opposites.{opposite}
+use Rattle.part_laws.proofs.Opposites.{opposite_accepts}
 use Rattle.step_tables.specs.Kept.{Kept}
 use Rattle.product_ops.specs.Negation.{exchanged, exchanged_upto, negated, AcceptsOthers}
 
@@ -45,8 +48,24 @@ one_changed before k n to e lt is =
     ap (λ (v : Kept). record v { table = record v.table { outs = slice_set v.table.outs n to } }) e
     ∙ ap (λ (os : List ℕ). record before { table = record before.table { outs = os } }) (one_exchanged before.table.outs n to lt (is ∙ ap (λ (v : Kept). 1 - slice_index v.table.outs n) e ∙ ap (λ x. 1 - x) (yet_to_come before.table.outs n lt)))
 
-pub all_changed : (before k : Kept) (n : ℕ) → k ≡ record before { table = record before.table { outs = exchanged_upto n before.table.outs } } → n ≡ length before.table.outs → k.table ≡ negated before.table
-all_changed before k n e is = ap (λ (v : Kept). v.table) e ∙ ap (λ (os : List ℕ). record before.table { outs = os }) (ap (λ i. exchanged_upto i before.table.outs) is ∙ all_exchanged before.table.outs)
+pub all_kept : (before k : Kept) (n : ℕ) → k ≡ record before { table = record before.table { outs = exchanged_upto n before.table.outs } } → n ≡ length before.table.outs → k ≡ record before { table = negated before.table }
+all_kept before k n e is = e ∙ ap (λ (os : List ℕ). record before { table = record before.table { outs = os } }) (ap (λ i. exchanged_upto i before.table.outs) is ∙ all_exchanged before.table.outs)
+
+-- the colours of a kept table
+other_colour : (c : ℕ) (answer : Bool) → c < 2 → answer ≡ nat_eq c 1 → (if not answer then 1 else 0) ≡ 1 - c
+other_colour zero answer lt e = ap (λ b. if not b then 1 else 0) e
+other_colour (suc zero) answer lt e = ap (λ b. if not b then 1 else 0) e
+other_colour (suc (suc n)) answer lt e = absurd (omega (arith, lt))
+
+pub one_recoloured : (before k : Kept) (n : ℕ) (answer : Bool) → k ≡ record before { table = record before.table { colours = exchanged_upto n before.table.colours } } → n < length before.table.colours → IsTable before.table → answer ≡ nat_eq (slice_index k.table.colours n) 1 → record k { table = record k.table { colours = slice_set k.table.colours n (if not answer then 1 else 0) } } ≡ record before { table = record before.table { colours = exchanged_upto (n + 1) before.table.colours } }
+one_recoloured before k n answer e lt h is =
+    ap (λ (v : Kept). record v { table = record v.table { colours = slice_set v.table.colours n (if not answer then 1 else 0) } }) e
+    ∙ ap (λ (cs : List ℕ). record before { table = record before.table { colours = cs } }) (one_exchanged before.table.colours n (if not answer then 1 else 0) lt
+    (other_colour (slice_index before.table.colours n) answer (read_below before.table.colours 2 n h.colours_in lt)
+    (is ∙ ap (λ (v : Kept). nat_eq (slice_index v.table.colours n) 1) e ∙ ap (λ x. nat_eq x 1) (yet_to_come before.table.colours n lt))))
+
+pub all_recoloured : (before k : Kept) (n : ℕ) → k ≡ record before { table = record before.table { colours = exchanged_upto n before.table.colours } } → n ≡ length before.table.colours → k ≡ record before { table = opposite before.table }
+all_recoloured before k n e is = e ∙ ap (λ (cs : List ℕ). record before { table = record before.table { colours = cs } }) (ap (λ i. exchanged_upto i before.table.colours) is ∙ all_exchanged before.table.colours)
 
 -- ---- what is accepted
 go_in : (t : Table) → IsTable t → (q : ℕ) (w : List ℕ) → q < ints t → AllByRecursion (λ l. l < letters t) w → go t.rows (letters t) q w < ints t
@@ -75,6 +94,14 @@ pub others_stand : (t : Table) → IsTable t → (P : List ℤ → ℕ → Type 
 others_stand t h P s = record {
   diagram = s.diagram;
   each = λ sign w lt a. subst (λ x. IsTrue x ↔ (P (values t.base t.tracks sign w) 1 → ⊥)) (sym (accepts_others t h s.diagram sign w lt a)) (negates (accepts_word t sign w) (P (values t.base t.tracks sign w) 1) (s.each sign w lt a));
+}
+
+-- with exchanged colours a table stands for all that is not in its set, whichever set that is
+pub others_stand_mixed : (t : Table) → IsTable t → (P : List ℤ → ℕ → Type 0) → StandsForMixed t P → StandsForMixed (opposite t) (λ ns d. P ns d → ⊥)
+others_stand_mixed t h P s = record {
+  fractions = subst (λ n. 0 < n) (sym (length-map t.colours (λ c. 1 - c))) s.fractions;
+  each = λ x i. subst (λ b. IsTrue b ↔ (P (numerators t.base t.tracks x) (denominator t.base x) → ⊥)) (sym (opposite_accepts t h s.fractions x i))
+      (negates (accepts_lasso t x) (P (numerators t.base t.tracks x) (denominator t.base x)) (s.each x i));
 }
 
 -- ---- states that part before do so afterwards

@@ -1,12 +1,18 @@
-use Rattle.std.proofs.Common.{sym, subst}
+use Rattle.std.proofs.Common.{◌≡◌, ◌∙◌, ap, sym, subst}
 use Rattle.lash_model.specs.Standing.{StandsForWhole}
 use Rattle.lash_model.specs.Sets.{set_of}
 use Rattle.step_tables.specs.Kept.{Kept}
-use Rattle.product_ops.specs.Negation.{AcceptsOthers}
+use Rattle.product_ops.specs.Negation.{negated, AcceptsOthers}
 use Rattle.set_compile.proofs.negation.exchanged.Goals as goal
 
+pub returns-clause-changed : goal.returns-clause-changed
+returns-clause-changed c = c.complement.ensures.changed c.into_table-table.ensures.canonical.diagram ∙ ap (λ (k : Kept). record k { table = negated k.table }) c.into_table-table.ensures.value
+
+pub returns-clause-diagram : goal.returns-clause-diagram
+returns-clause-diagram c = ap (λ (k : Kept). k.table.colours) (c.complement.ensures.changed c.into_table-table.ensures.canonical.diagram) ∙ c.into_table-table.ensures.canonical.diagram
+
 pub returns-clause-words : goal.returns-clause-words
-returns-clause-words c = subst (λ (k : Kept). AcceptsOthers k.table c.complement.new.table.table) c.into_table-table.ensures.value c.complement.ensures.words
+returns-clause-words c = subst (λ (k : Kept). AcceptsOthers k.table c.complement.new.table.table) c.into_table-table.ensures.value (c.complement.ensures.words c.into_table-table.ensures.canonical.diagram)
 
 pub returns-clause-stands : goal.returns-clause-stands
 returns-clause-stands c = λ f s p. c.complement.ensures.stands f s (subst (λ (k : Kept). StandsForWhole k.table (set_of f s)) (sym c.into_table-table.ensures.value) p)

@@ -1,7 +1,7 @@
 use Rattle.std.proofs.Common.{◌≡◌}
 use Rattle.lash_model.specs.Tables.{IsTable}
 use Rattle.product_ops.specs.Negation.{exchanged_upto}
-use Rattle.product_ops.proofs.negation.complement.Given as goal
+use Rattle.product_ops.proofs.negation.exchange_outputs.Given as goal
 
 abbrev pub invariant-loop-state : goal.invariant-loop-state
 invariant-loop-state g l = record {
