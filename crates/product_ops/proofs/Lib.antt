@@ -7,3 +7,6 @@ pub mod PairsInTwo
 pub mod Outcomes
 pub mod TestTables
 pub mod Exchanging
+pub mod Zeros
+pub mod Copying
+pub mod Doubling

@@ -4,3 +4,4 @@ pub mod Pairs
 pub mod FractionPairs
 pub mod ReadLassos
 pub mod Negation
+pub mod Restriction

@@ -1,4 +1,4 @@
-//! Truth functions of automata: the product of two, and the complement of one.
+//! Truth functions of automata: products and complements, and the whole numbers of a table with fraction states.
 #![tactic(auto)]
 
 mod fraction_pairs;
@@ -8,12 +8,14 @@ mod operation;
 mod outputs;
 mod pairs;
 mod reading;
+mod restriction;
 mod synchronous;
 mod track_map;
 
 pub use laws::{heavy_or_mixed_pairs, heavy_or_pairs, operands_read_lassos, operands_read_words};
 pub use negation::complement;
 pub use operation::Op;
+pub use restriction::restrict_to_ints;
 pub use synchronous::product;
 pub use track_map::TrackMap;
 
