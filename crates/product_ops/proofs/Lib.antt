@@ -10,3 +10,4 @@ pub mod Exchanging
 pub mod Zeros
 pub mod Copying
 pub mod Doubling
+pub mod Sinks

@@ -21,3 +21,5 @@ pub use track_map::TrackMap;
 
 #[cfg(test)]
 mod tests;
+#[cfg(test)]
+mod weak_tests;
