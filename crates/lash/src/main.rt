@@ -32,7 +32,7 @@ fn main(rt: HostRuntime) -> ExitCode {
     let words = match words(&rt) {
         Ok(words) => words,
         Err(ending) => {
-            report(ending, &mut errors);
+            report(&ending, &mut errors);
             return ExitCode::from(ending.status().code());
         }
     };

@@ -34,18 +34,19 @@ use Rattle.loop_meaning.specs.Looping.{loop_fault}
 use Rattle.statement_meaning.specs.Values.{ratio_of, values_pass, IsQuotient}
 use Rattle.statement_meaning.specs.Judging.{IsJudged, IsStatementWithin, statement_fault, tested_fault, other_fault, compared_fault, is_full, same_sort, same_sorts}
 use Rattle.statement_meaning.specs.declared.statement.Statement.{Statement}
-use Rattle.statement_answers.specs.Automata.{IsGiven}
+use Rattle.statement_answers.specs.Automata.{IsGiven, IsOfIntegers, AreOfIntegers}
+use Rattle.statement_answers.specs.declared.settings.Settings.{Settings}
 use Rattle.statement_answers.specs.Keeping.{OfKept, OfTwo}
-use Rattle.statement_answers.specs.Pieces.{IsFit, FitsVariables}
+use Rattle.statement_answers.specs.Pieces.{IsFit, FitsVariables, AsksIntegers}
 use Rattle.statement_answers.proofs.Conditions.{substituted_over}
 use Rattle.statement_answers.proofs.Pairing.{few_places}
 use Rattle.statement_answers.proofs.Shelving.{here}
-use Rattle.lash_command.proofs.GivenSets.{left_false, right_false, IsFine, AreFine, given_set, within_none}
-use Rattle.lash_command.proofs.LoopBodies.{loop_fits}
+use Rattle.lash_command.proofs.GivenSets.{left_false, right_false, IsFine, AreFine, given_set, set_of_integers, within_none}
+use Rattle.lash_command.proofs.LoopBodies.{loop_fits, loop_of_integers}
 
--- the kept sets are of integers and inside all limits
-abbrev pub AreGiven : List KeptSet → Type 0
-AreGiven kept = All (λ k. IsGiven k.vars k.formula) kept
+-- the kept sets are inside all limits
+abbrev pub AreGiven : ℕ → List KeptSet → Type 0
+AreGiven base kept = All (λ k. IsGiven base k.vars k.formula) kept
 
 -- what stands at a place
 all_at : {A : Type 0} (P : A → Type 0) (xs : List A) (i : ℕ) (x : A) → All P xs → slice_get xs i ≡ Some x → P x
@@ -53,15 +54,12 @@ all_at P [] i x h e = absurd (not_none x e)
 all_at P (y ∷ ys) zero x h e = subst P (same_some y x e) (h 0 y (omega arith))
 all_at P (y ∷ ys) (suc i) x h e = all_at P ys i x (λ k d lt. h (suc k) d (omega (arith, lt))) e
 
-pub fine_of : (kept : List KeptSet) → AreGiven kept → AreFine kept
-fine_of kept h name k e = by (kept_place kept name) e
+pub fine_of : (base : ℕ) (kept : List KeptSet) → AreGiven base kept → AreOfIntegers kept → AreFine kept
+fine_of base kept h integers name k e = by (kept_place kept name) e
   where
-    fine : IsGiven k.vars k.formula → IsFine k
-    fine g = record { over = g.over; bound = g.bound }
-
     by : (o : Option ℕ) → set_at kept o ≡ Some k → IsFine k
     by None e = absurd (not_none k e)
-    by (Some at) e = fine (all_at (λ k. IsGiven k.vars k.formula) kept at k h e)
+    by (Some at) e = record { over = (all_at (λ k. IsGiven base k.vars k.formula) kept at k h e).over; bound = (all_at (λ k. IsOfIntegers k.vars k.formula) kept at k integers e).bound }
 
 place_below : (kept : List KeptSet) (name : List ℕ) (at : ℕ) → kept_place kept name ≡ Some at → at < length kept
 place_below kept name at e = (position-Some _ kept at nothing e).0
@@ -80,11 +78,11 @@ has_room kept e = by (nat_lt (length kept) sets_limit) refl e
     by true q e = ltb-true (length kept) sets_limit q
     by false q e = absurd (true≢false e)
 
-kept_inside : (kept : List KeptSet) (name : List ℕ) (set : ComprehensionShape) (full : Bool) → AreFine kept → IsGiven (ask.vars_of set) (ask.core_of kept set) → IsWithin full 2 (length set.vars) set.formula (ask.core_of kept set) → IsKept (record { name = name; vars = ask.vars_of set; formula = ask.core_of kept set })
-kept_inside kept name set full fine given within =
-    let limits = within_none full 2 (length set.vars) set.formula (ask.core_of kept set) within in
+kept_inside : (base : ℕ) (kept : List KeptSet) (name : List ℕ) (set : ComprehensionShape) (full : Bool) → 2 ≤ base → IsGiven base (ask.vars_of set) (ask.core_of kept set) → IsWithin full base (length set.vars) set.formula (ask.core_of kept set) → IsKept (record { name = name; vars = ask.vars_of set; formula = ask.core_of kept set })
+kept_inside base kept name set full low given within =
+    let limits = within_none full base (length set.vars) set.formula (ask.core_of kept set) within in
     record {
-      few = few_places (length (ask.vars_of set)) given.letters.0;
+      few = few_places base (length (ask.vars_of set)) low given.letters.0;
       over = substituted_over (length (ask.vars_of set)) (ask.core_of kept set) given.over;
       nodes = limits.nodes;
       depth = limits.depth;
@@ -132,32 +130,32 @@ same_long name j k e = by (same_sorts (sorts_of j.vars) (sorts_of k.vars)) refl 
     by false q e = absurd (not_none _ (sym e))
 
 -- two sets that are compared
-both_fit : (kept : List KeptSet) (f : ℕ → ℕ → Asked) (a b : Named) (x : Asked) → ((i j : ℕ) → OfTwo kept i j (λ k l. length k.vars ≡ length l.vars) → IsFit kept (f i j)) → compared_fault kept a b ≡ None → of_both f (kept_place kept a.left) (kept_place kept b.left) ≡ Some x → IsFit kept x
-both_fit kept f a b x fit names e = by (kept_place kept a.left) (kept_place kept b.left) refl refl names e
+both_fit : (settings : Settings) (kept : List KeptSet) (f : ℕ → ℕ → Asked) (a b : Named) (x : Asked) → ((i j : ℕ) → OfTwo kept i j (λ k l. length k.vars ≡ length l.vars) → IsFit settings kept (f i j)) → compared_fault kept a b ≡ None → of_both f (kept_place kept a.left) (kept_place kept b.left) ≡ Some x → IsFit settings kept x
+both_fit settings kept f a b x fit names e = by (kept_place kept a.left) (kept_place kept b.left) refl refl names e
   where
-    by : (o p : Option ℕ) → kept_place kept a.left ≡ o → kept_place kept b.left ≡ p → or_else (unknown a o) (other_fault b (set_at kept o) (set_at kept p)) ≡ None → of_both f o p ≡ Some x → IsFit kept x
+    by : (o p : Option ℕ) → kept_place kept a.left ≡ o → kept_place kept b.left ≡ p → or_else (unknown a o) (other_fault b (set_at kept o) (set_at kept p)) ≡ None → of_both f o p ≡ Some x → IsFit settings kept x
     by None p q r names e = absurd (not_none x e)
     by (Some i) None q r names e = absurd (not_none x e)
     by (Some i) (Some j) q r names e =
         let left = here kept i (place_below kept a.left i q) in
         let right = here kept j (place_below kept b.left j r) in
-        subst (IsFit kept) (same_some (f i j) x e) (fit i j (left.set, (left.got, (right.set, (right.got, same_long b left.set right.set (subst (λ o. other_fault b o (Some right.set) ≡ None) left.got (subst (λ o. other_fault b (slice_get kept i) o ≡ None) right.got names)))))))
+        subst (IsFit settings kept) (same_some (f i j) x e) (fit i j (left.set, (left.got, (right.set, (right.got, same_long b left.set right.set (subst (λ o. other_fault b o (Some right.set) ≡ None) left.got (subst (λ o. other_fault b (slice_get kept i) o ≡ None) right.got names)))))))
 
-one_fits : (kept : List KeptSet) (f : ℕ → Asked) (name : Named) (x : Asked) → ((i : ℕ) → i < length kept → IsFit kept (f i)) → option_map f (kept_place kept name.left) ≡ Some x → IsFit kept x
-one_fits kept f name x fit e = by (kept_place kept name.left) refl e
+one_fits : (settings : Settings) (kept : List KeptSet) (f : ℕ → Asked) (name : Named) (x : Asked) → ((i : ℕ) → i < length kept → IsFit settings kept (f i)) → option_map f (kept_place kept name.left) ≡ Some x → IsFit settings kept x
+one_fits settings kept f name x fit e = by (kept_place kept name.left) refl e
   where
-    by : (o : Option ℕ) → kept_place kept name.left ≡ o → option_map f o ≡ Some x → IsFit kept x
+    by : (o : Option ℕ) → kept_place kept name.left ≡ o → option_map f o ≡ Some x → IsFit settings kept x
     by None q e = absurd (not_none x e)
-    by (Some i) q e = subst (IsFit kept) (same_some (f i) x e) (fit i (place_below kept name.left i q))
+    by (Some i) q e = subst (IsFit settings kept) (same_some (f i) x e) (fit i (place_below kept name.left i q))
 
-test_fits : (kept : List KeptSet) (name : Named) (vs : List RationalShape) (x : Asked) → All IsQuotient vs → tested_fault name (kept_set kept name.left) (length vs) ≡ None → IsStatementWithin 2 kept (Test name vs) → option_map (λ at. ask.Test at (map ratio_of vs)) (kept_place kept name.left) ≡ Some x → IsFit kept x
-test_fits kept name vs x quotients names within e = by (kept_place kept name.left) refl names e
+test_fits : (settings : Settings) (kept : List KeptSet) (name : Named) (vs : List RationalShape) (x : Asked) → All IsQuotient vs → tested_fault name (kept_set kept name.left) (length vs) ≡ None → IsStatementWithin settings.base kept (Test name vs) → option_map (λ at. ask.Test at (map ratio_of vs)) (kept_place kept name.left) ≡ Some x → IsFit settings kept x
+test_fits settings kept name vs x quotients names within e = by (kept_place kept name.left) refl names e
   where
-    by : (o : Option ℕ) → kept_place kept name.left ≡ o → tested_fault name (set_at kept o) (length vs) ≡ None → option_map (λ at. ask.Test at (map ratio_of vs)) o ≡ Some x → IsFit kept x
+    by : (o : Option ℕ) → kept_place kept name.left ≡ o → tested_fault name (set_at kept o) (length vs) ≡ None → option_map (λ at. ask.Test at (map ratio_of vs)) o ≡ Some x → IsFit settings kept x
     by None q names e = absurd (not_none x e)
     by (Some i) q names e =
         let h = here kept i (place_below kept name.left i q) in
-        subst (IsFit kept) (same_some (ask.Test i (map ratio_of vs)) x e) (
+        subst (IsFit settings kept) (same_some (ask.Test i (map ratio_of vs)) x e) (
           h.set,
           (
             h.got,
@@ -170,25 +168,48 @@ test_fits kept name vs x quotients names within e = by (kept_place kept name.lef
         )
 
 -- by the statement's shape
-fit : (kept : List KeptSet) → AreGiven kept → (shape : StatementShape) (x : Asked) → IsPlainStatement shape → statement_fault kept shape ≡ None → IsStatementWithin 2 kept shape → asked kept shape ≡ Some x → IsFit kept x
-fit kept h (Show set) x plain names within e = subst (IsFit kept) (same_some _ x e) (given_set kept (fine_of kept h) false set.vars set.formula plain.integers plain.tree within)
-fit kept h (Set name set) x plain names within e =
-    let given = given_set kept (fine_of kept h) (is_full kept) set.vars set.formula plain.integers plain.tree within in
-    let limits = within_none (is_full kept) 2 (length set.vars) set.formula (ask.core_of kept set) within in
-    subst (IsFit kept) (same_some _ x e) ((given, kept_inside kept name.left set (is_full kept) (fine_of kept h) given within), (new_name name (kept_place kept name.left) (set_fault kept set.vars set.formula) names, has_room kept limits.room))
-fit kept h (Print name) x plain names within e = one_fits kept ask.Print name x (λ i lt. lt) e
-fit kept h (Solve name) x plain names within e = one_fits kept ask.Solve name x (λ i lt. lt) e
-fit kept h (Test name vs) x plain names within e = test_fits kept name vs x plain names within e
-fit kept h (Equal a b) x plain names within e = both_fit kept ask.Equal a b x (λ i j two. two) names e
-fit kept h (Subset a b) x plain names within e = both_fit kept ask.Subset a b x (λ i j two. two) names e
-fit kept h (Check f) x plain names within e = subst (IsFit kept) (same_some _ x e) (given_set kept (fine_of kept h) false [] f tt plain within)
-fit kept h (Loop name vars turn) x plain names within e =
-    subst (IsFit kept) (same_some _ x e) (loop_fits kept (fine_of kept h) (has_room kept) name vars turn plain (new_name name (kept_place kept name.left) (loop_fault kept vars turn) names) within)
+fit : (settings : Settings) (kept : List KeptSet) → 2 ≤ settings.base → AreFine kept → (shape : StatementShape) (x : Asked) → IsPlainStatement shape → statement_fault kept shape ≡ None → IsStatementWithin settings.base kept shape → asked kept shape ≡ Some x → IsFit settings kept x
+fit settings kept low fine (Show set) x plain names within e = subst (IsFit settings kept) (same_some _ x e) (given_set settings.base kept fine false set.vars set.formula within)
+fit settings kept low fine (Set name set) x plain names within e =
+    let given = given_set settings.base kept fine (is_full kept) set.vars set.formula within in
+    let limits = within_none (is_full kept) settings.base (length set.vars) set.formula (ask.core_of kept set) within in
+    subst (IsFit settings kept) (same_some _ x e) ((given, kept_inside settings.base kept name.left set (is_full kept) low given within), (new_name name (kept_place kept name.left) (set_fault kept set.vars set.formula) names, has_room kept limits.room))
+fit settings kept low fine (Print name) x plain names within e = one_fits settings kept ask.Print name x (λ i lt. lt) e
+fit settings kept low fine (Solve name) x plain names within e = one_fits settings kept ask.Solve name x (λ i lt. lt) e
+fit settings kept low fine (Test name vs) x plain names within e = test_fits settings kept name vs x plain names within e
+fit settings kept low fine (Equal a b) x plain names within e = both_fit settings kept ask.Equal a b x (λ i j two. two) names e
+fit settings kept low fine (Subset a b) x plain names within e = both_fit settings kept ask.Subset a b x (λ i j two. two) names e
+fit settings kept low fine (Check f) x plain names within e = subst (IsFit settings kept) (same_some _ x e) (given_set settings.base kept fine false [] f within)
+fit settings kept low fine (Loop name vars turn) x plain names within e =
+    subst (IsFit settings kept) (same_some _ x e) (loop_fits kept fine (has_room kept) name vars turn (new_name name (kept_place kept name.left) (loop_fault kept vars turn) names) within)
 
--- what the reader gives is answered
-pub fits : (kept : List KeptSet) → AreGiven kept → (shape : StatementShape) (s : Statement) → IsPlainStatement shape → IsJudged 2 kept shape s → IsFit kept (asked_of s)
-fits kept h shape s plain j = fit kept h shape (asked_of s) plain j.names j.within j.asks
+-- what a statement without reals asks is of integers
+one_asks : (f : ℕ → Asked) (o : Option ℕ) (x : Asked) → ((i : ℕ) → AsksIntegers (f i)) → option_map f o ≡ Some x → AsksIntegers x
+one_asks f None x each e = absurd (not_none x e)
+one_asks f (Some i) x each e = subst AsksIntegers (same_some (f i) x e) (each i)
+
+both_ask : (f : ℕ → ℕ → Asked) (o p : Option ℕ) (x : Asked) → ((i j : ℕ) → AsksIntegers (f i j)) → of_both f o p ≡ Some x → AsksIntegers x
+both_ask f None p x each e = absurd (not_none x e)
+both_ask f (Some i) None x each e = absurd (not_none x e)
+both_ask f (Some i) (Some j) x each e = subst AsksIntegers (same_some (f i j) x e) (each i j)
+
+asks : (kept : List KeptSet) → AreFine kept → (shape : StatementShape) (x : Asked) → IsPlainStatement shape → asked kept shape ≡ Some x → AsksIntegers x
+asks kept fine (Show set) x plain e = subst AsksIntegers (same_some _ x e) (set_of_integers kept fine set.vars set.formula plain.integers plain.tree)
+asks kept fine (Set name set) x plain e = subst AsksIntegers (same_some _ x e) (set_of_integers kept fine set.vars set.formula plain.integers plain.tree)
+asks kept fine (Print name) x plain e = one_asks ask.Print (kept_place kept name.left) x (λ i. tt) e
+asks kept fine (Solve name) x plain e = one_asks ask.Solve (kept_place kept name.left) x (λ i. tt) e
+asks kept fine (Test name vs) x plain e = one_asks (λ at. ask.Test at (map ratio_of vs)) (kept_place kept name.left) x (λ i. tt) e
+asks kept fine (Equal a b) x plain e = both_ask ask.Equal (kept_place kept a.left) (kept_place kept b.left) x (λ i j. tt) e
+asks kept fine (Subset a b) x plain e = both_ask ask.Subset (kept_place kept a.left) (kept_place kept b.left) x (λ i j. tt) e
+asks kept fine (Check f) x plain e = subst AsksIntegers (same_some _ x e) (set_of_integers kept fine [] f tt plain)
+asks kept fine (Loop name vars turn) x plain e = subst AsksIntegers (same_some _ x e) (loop_of_integers vars plain)
 
 -- what the reader has given is answered
-pub fits_next : (base : ℕ) (kept : List KeptSet) (p q : Progress) (lb la : Option (List ℕ)) (s : Statement) → base ≡ 2 → AreGiven kept → ((ts : List PlacedToken) (shape : StatementShape) → Spells ts shape → IsPlainStatement shape) → IsNext base kept p q lb la s → IsFit kept (asked_of s)
-fits_next base kept p q lb la s two given plain h = fits kept given h.asks.shape s (plain (tokens_of p.given h.text) h.asks.shape h.asks.spells) (subst (λ b. IsJudged b kept h.asks.shape s) two h.asks.is)
+pub fits_next : (settings : Settings) (base : ℕ) (kept : List KeptSet) (p q : Progress) (lb la : Option (List ℕ)) (s : Statement) → base ≡ settings.base → 2 ≤ settings.base → AreGiven settings.base kept → AreOfIntegers kept → ((ts : List PlacedToken) (shape : StatementShape) → Spells ts shape → IsPlainStatement shape) → IsNext base kept p q lb la s → IsFit settings kept (asked_of s)
+fits_next settings base kept p q lb la s same low given integers plain h =
+    let j : IsJudged settings.base kept h.asks.shape s = subst (λ b. IsJudged b kept h.asks.shape s) same h.asks.is in
+    fit settings kept low (fine_of settings.base kept given integers) h.asks.shape (asked_of s) (plain (tokens_of p.given h.text) h.asks.shape h.asks.spells) j.names j.within j.asks
+
+-- and of integers
+pub asks_next : (settings : Settings) (base : ℕ) (kept : List KeptSet) (p q : Progress) (lb la : Option (List ℕ)) (s : Statement) → AreGiven settings.base kept → AreOfIntegers kept → ((ts : List PlacedToken) (shape : StatementShape) → Spells ts shape → IsPlainStatement shape) → IsNext base kept p q lb la s → AsksIntegers (asked_of s)
+asks_next settings base kept p q lb la s given integers plain h = asks kept (fine_of settings.base kept given integers) h.asks.shape (asked_of s) (plain (tokens_of p.given h.text) h.asks.shape h.asks.spells) h.asks.is.asks

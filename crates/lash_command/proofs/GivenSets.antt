@@ -6,8 +6,7 @@ use Rattle.std.proofs.lemmas.Bool.{ltb-false, true≢false}
 use Rattle.std.proofs.lemmas.List.{length-append, length-map}
 use Rattle.std.proofs.lemmas.List.Elements.{All-from_recursion}
 use Rattle.std.proofs.lemmas.Bool.{eqb-true}
-use Rattle.lash_model.specs.Formulas.{Int, Linear, Formula, Atom as CoreAtom, Not as CoreNot, And as CoreAnd, Or as CoreOr, Exists as CoreExists}
-use Rattle.lash_model.specs.Standing.{all_int}
+use Rattle.lash_model.specs.Formulas.{Sort, Int, Linear, Formula, Atom as CoreAtom, Not as CoreNot, And as CoreAnd, Or as CoreOr, Exists as CoreExists}
 use Rattle.parser_laws.proofs.Parts.{same_some, not_none}
 use Rattle.formula_core.specs.Counts.{nodes_of, depth_of}
 use Rattle.formula_core.specs.FewLetters.{FitsLetters}
@@ -27,7 +26,8 @@ use Rattle.term_substitution.specs.Substitution.{substituted}
 use Rattle.term_substitution.proofs.Reaching.{AreBelow, result_placed}
 use Rattle.script_parse.specs.Plain.{IsPlainTree, IsInt}
 use Rattle.set_compile.specs.Conditions.{IsTermOver, IsOver, BindsIntegers}
-use Rattle.statement_answers.specs.Automata.{IsGiven}
+use Rattle.set_answers.specs.Sorts.{AreIntegers}
+use Rattle.statement_answers.specs.Automata.{IsGiven, IsOfIntegers}
 use Rattle.statement_answers.proofs.Conditions.{compiled_over, substituted_over, passed_over}
 
 -- the kept sets are over their variables and bind integers
@@ -215,28 +215,26 @@ core_bound kept fine scope (Equivalent f g) h =
     ((left, right), (right, left))
 core_bound kept fine scope (Quantified q ds f) h = bound_keeps BindsIntegers (λ f k. k) (λ f k. (refl, k)) q ds (core kept (with_declared scope ds) f) h.0 (core_bound kept fine (with_declared scope ds) f h.1)
 
-sorts_int : (ds : List DeclarationShape) → AllByRecursion IsInt ds → sorts_of (map variable_of ds) ≡ all_int (length ds)
-sorts_int [] h = refl
-sorts_int (d ∷ ds) h = ap (λ s. s ∷ sorts_of (map variable_of ds)) h.0 ∙ ap (λ ss. Int ∷ ss) (sorts_int ds h.1)
-
-pub given_sorts : (ds : List DeclarationShape) → AllByRecursion IsInt ds → sorts_of (with_declared [] ds) ≡ all_int (length ds)
-given_sorts ds h = sorts_int ds h
-
 pub variables_int : (ds : List DeclarationShape) → AllByRecursion IsInt ds → AllByRecursion (λ v. v.1 ≡ Int) (map variable_of ds)
 variables_int [] h = tt
 variables_int (d ∷ ds) h = (h.0, variables_int ds h.1)
 
-pub given_integers : (ds : List DeclarationShape) → AllByRecursion IsInt ds → All (λ v. v.1 ≡ Int) (with_declared [] ds)
-given_integers ds h = All-from_recursion (λ v. v.1 ≡ Int) (with_declared [] ds) (variables_int ds h)
+of_variables : (vs : List (List ℕ × Sort)) → AllByRecursion (λ v. v.1 ≡ Int) vs → AllByRecursion (λ s. s ≡ Int) (sorts_of vs)
+of_variables [] h = tt
+of_variables (v ∷ vs) h = (h.0, of_variables vs h.1)
+
+pub are_integers : (vs : List (List ℕ × Sort)) → AllByRecursion (λ v. v.1 ≡ Int) vs → AreIntegers (sorts_of vs)
+are_integers vs h = All-from_recursion (λ s. s ≡ Int) (sorts_of vs) (of_variables vs h)
 
 -- what the reader gives is what is compiled
-pub given_set : (kept : List KeptSet) → AreFine kept → (full : Bool) (ds : List DeclarationShape) (f : TreeShape) → AllByRecursion IsInt ds → IsPlainTree f → IsWithin full 2 (length ds) f (core kept (with_declared [] ds) f) → IsGiven (with_declared [] ds) (core kept (with_declared [] ds) f)
-given_set kept fine full ds f ints plain within =
+pub given_set : (base : ℕ) (kept : List KeptSet) → AreFine kept → (full : Bool) (ds : List DeclarationShape) (f : TreeShape) → IsWithin full base (length ds) f (core kept (with_declared [] ds) f) → IsGiven base (with_declared [] ds) (core kept (with_declared [] ds) f)
+given_set base kept fine full ds f within =
     let many : length (with_declared [] ds) ≡ length ds = length-map ds variable_of in
     record {
-      integers = given_integers ds ints;
-      sorts = given_sorts ds ints ∙ ap all_int (sym many);
-      over = subst (λ n. IsOver n (core kept (with_declared [] ds) f)) (sym many) (given_over kept fine full 2 (length ds) ds f within);
-      bound = core_bound kept fine (with_declared [] ds) f plain;
-      letters = subst (λ n. FitsLetters 2 (core kept (with_declared [] ds) f) n) (sym many) within.letters;
+      over = subst (λ n. IsOver n (core kept (with_declared [] ds) f)) (sym many) (given_over kept fine full base (length ds) ds f within);
+      letters = subst (λ n. FitsLetters base (core kept (with_declared [] ds) f) n) (sym many) within.letters;
     }
+
+-- its variables are integers
+pub set_of_integers : (kept : List KeptSet) → AreFine kept → (ds : List DeclarationShape) (f : TreeShape) → AllByRecursion IsInt ds → IsPlainTree f → IsOfIntegers (with_declared [] ds) (core kept (with_declared [] ds) f)
+set_of_integers kept fine ds f ints plain = record { sorts = are_integers (with_declared [] ds) (variables_int ds ints); bound = core_bound kept fine (with_declared [] ds) f plain }

@@ -10,7 +10,6 @@ use Rattle.integer_laws.specs.Vectors.{vector_from}
 use Rattle.integer_laws.proofs.Entries.{length-vector_from}
 use Rattle.lash_model.specs.Formulas.{Sort, Int, Formula}
 use Rattle.lash_model.specs.Meaning.{holds}
-use Rattle.lash_model.specs.Standing.{all_int}
 use Rattle.formula_core.specs.Variables.{sorts_of}
 use Rattle.script_grammar.specs.Statements.{Bound, AtMost, Below, AtLeast, Above, Equal}
 use Rattle.script_syntax.specs.Trees.{Named, SignedShape, DeclarationShape, TreeShape, And}
@@ -33,9 +32,10 @@ use Rattle.loop_meaning.specs.Guards.{relation_of_bound, constraint_tree, joined
 use Rattle.loop_meaning.specs.Assigning.{is_place, assigned_to, becomes, next_term, next_shift, shift_passes}
 use Rattle.loop_meaning.specs.Looping.{scope_of, guard_of, loop_literal, loop_variables_limit, loop_passed, shift_limit, loop_body, primed, loop_variables}
 use Rattle.statement_meaning.specs.Judging.{is_full}
+use Rattle.set_answers.specs.Sorts.{AreIntegers}
 use Rattle.statement_answers.specs.Loops.{HasPairs, IsFitLoop, pairs_of}
 use Rattle.statement_answers.proofs.Conditions.{substituted_over, passed_over}
-use Rattle.lash_command.proofs.GivenSets.{left_false, right_false, AreFine, core_within, none_passed, variables_int}
+use Rattle.lash_command.proofs.GivenSets.{left_false, right_false, AreFine, core_within, none_passed, variables_int, are_integers}
 
 -- a comparison of a guard is none of unequal values
 compared_member : (scope : Scope) (a : List SignedShape) (r : Bound) (b : List SignedShape) → IsMember (compared scope a (relation_of_bound r) b) × IsGuard (compared scope a (relation_of_bound r) b)
@@ -74,20 +74,20 @@ shift_is_small scope xs e = record {
 }
 
 -- variables that are integers
-abbrev AreIntegers : List (List ℕ × Sort) → Type 0
-AreIntegers vs = AllByRecursion (λ v. v.1 ≡ Int) vs
+abbrev VariablesAreIntegers : List (List ℕ × Sort) → Type 0
+VariablesAreIntegers vs = AllByRecursion (λ v. v.1 ≡ Int) vs
 
-primed_integers : (vs : List (List ℕ × Sort)) → AreIntegers vs → AreIntegers (map primed vs)
+primed_integers : (vs : List (List ℕ × Sort)) → VariablesAreIntegers vs → VariablesAreIntegers (map primed vs)
 primed_integers [] h = tt
 primed_integers (v ∷ vs) h = (h.0, primed_integers vs h.1)
 
-both_integers : (vs ws : List (List ℕ × Sort)) → AreIntegers vs → AreIntegers ws → AreIntegers (vs ++ ws)
+both_integers : (vs ws : List (List ℕ × Sort)) → VariablesAreIntegers vs → VariablesAreIntegers ws → VariablesAreIntegers (vs ++ ws)
 both_integers [] ws h i = i
 both_integers (v ∷ vs) ws h i = (h.0, both_integers vs ws h.1 i)
 
-integer_sorts : (vs : List (List ℕ × Sort)) → AreIntegers vs → sorts_of vs ≡ all_int (length vs)
-integer_sorts [] h = refl
-integer_sorts (v ∷ vs) h = ap (λ s. s ∷ sorts_of vs) h.0 ∙ ap (λ ss. Int ∷ ss) (integer_sorts vs h.1)
+-- the variables of a loop are integers where the declared ones are
+pub loop_of_integers : (vars : List DeclarationShape) → AllByRecursion IsInt vars → AreIntegers (sorts_of (loop_variables vars))
+loop_of_integers vars plain = are_integers (loop_variables vars) (both_integers (scope_of vars) (map primed (scope_of vars)) (variables_int vars plain) (primed_integers (scope_of vars) (variables_int vars plain)))
 
 -- no limit of two is passed
 first_none : (x y : Option Which) → or_else x y ≡ None → x ≡ None
@@ -99,13 +99,12 @@ second_none None y e = e
 second_none (Some w) y e = absurd (not_none w (sym e))
 
 -- a loop whose names are right and that passes no limit
-pub loop_fits : (kept : List KeptSet) → AreFine kept → (is_full kept ≡ false → length kept < sets_limit) → (name : Named) (vars : List DeclarationShape) (t : TurnShape) → AllByRecursion IsInt vars → kept_place kept name.left ≡ None → loop_passed (is_full kept) kept vars t ≡ None → IsFitLoop kept name.left (loop_variables vars) (loop_body kept vars t)
-loop_fits kept fine has_room name vars t plain fresh within =
+pub loop_fits : (kept : List KeptSet) → AreFine kept → (is_full kept ≡ false → length kept < sets_limit) → (name : Named) (vars : List DeclarationShape) (t : TurnShape) → kept_place kept name.left ≡ None → loop_passed (is_full kept) kept vars t ≡ None → IsFitLoop kept name.left (loop_variables vars) (loop_body kept vars t)
+loop_fits kept fine has_room name vars t fresh within =
     let literals = passed_over (loop_literal t) Literal _ within in
     let few = passed_over (nat_lt loop_variables_limit (length vars)) LoopVariables _ literals.rest in
     let limits = none_passed (is_full kept) (guard_tree t.guard) (guard_of kept vars t) (first_none (first_passed (is_full kept) (guard_tree t.guard) (guard_of kept vars t)) (shift_limit t) few.rest) in
     let shift = passed_over (shift_passes t.assignments) Constant None (second_none (first_passed (is_full kept) (guard_tree t.guard) (guard_of kept vars t)) (shift_limit t) few.rest) in
-    let integers = both_integers (scope_of vars) (map primed (scope_of vars)) (variables_int vars plain) (primed_integers (scope_of vars) (variables_int vars plain)) in
     record {
       inside = record {
         guard = guard_is_guard kept (scope_of vars) t.guard;
@@ -115,8 +114,6 @@ loop_fits kept fine has_room name vars t plain fresh within =
         shift = shift_is_small (scope_of vars) t.assignments shift.test;
       };
       count = length-append (scope_of vars) (map primed (scope_of vars)) ∙ ap (λ n. length (scope_of vars) + n) (length-map (scope_of vars) primed);
-      integers = All-from_recursion (λ v. v.1 ≡ Int) (loop_variables vars) integers;
-      sorts = integer_sorts (loop_variables vars) integers;
       fresh = fresh;
       room = has_room limits.room;
     }
@@ -125,9 +122,9 @@ loop_fits kept fine has_room name vars t plain fresh within =
 abbrev ClosuresJoinTurns : Type 0
 ClosuresJoinTurns = (l : Body) (p : ℕ) (x y : List ℤ) (d : ℕ) → 0 < p → IsPower l.matrix p → IsGuard l.guard → length x ≡ l.matrix.side → length y ≡ l.matrix.side → 0 < d → holds (closure_of false l p) (x ++ y) d ↔ ((k : ℕ) × after l d k x y)
 
--- a kept loop is its turns
-pub kept_turns : ClosuresJoinTurns → (kept : List KeptSet) (vars : List DeclarationShape) (t : TurnShape) (x y : List ℤ) (d : ℕ) → HasPairs (loop_body kept vars t) → length x ≡ length vars → length y ≡ length vars → 0 < d → holds (pairs_of (loop_body kept vars t)) (x ++ y) d ↔ ((k : ℕ) × after (loop_body kept vars t) d k x y)
-kept_turns joins kept vars t x y d h as_many as_many_behind some =
+-- a kept loop is its iterations
+pub kept_turns : (base : ℕ) → ClosuresJoinTurns → (kept : List KeptSet) (vars : List DeclarationShape) (t : TurnShape) (x y : List ℤ) (d : ℕ) → HasPairs base (loop_body kept vars t) → length x ≡ length vars → length y ≡ length vars → 0 < d → holds (pairs_of (loop_body kept vars t)) (x ++ y) d ↔ ((k : ℕ) × after (loop_body kept vars t) d k x y)
+kept_turns base joins kept vars t x y d h as_many as_many_behind some =
     let side : length (scope_of vars) ≡ length vars = length-map vars variable_of in
     subst (λ f. holds f (x ++ y) d ↔ ((k : ℕ) × after (loop_body kept vars t) d k x y)) (sym h.same)
     (joins (loop_body kept vars t) h.power x y d (omega (arith, h.least.some)) h.least.power (guard_is_guard kept (scope_of vars) t.guard) (as_many ∙ sym side) (as_many_behind ∙ sym side) some)

@@ -17,6 +17,7 @@ use Rattle.statement_meaning.specs.Asking.{Asked}
 use Rattle.statement_meaning.specs.Judging.{statement_fault, IsStatementWithin}
 use Rattle.statement_answers.specs.Keeping.{grown}
 use Rattle.statement_answers.specs.Pieces.{IsPieceOf, IsHeavyAsked, IsTooMuch, IsPowerless, IsPassedByClosure}
+use Rattle.statement_answers.specs.declared.settings.Settings.{Settings}
 use Rattle.statement_answers.specs.declared.errors.Unanswered.{Unanswered}
 use Rattle.statement_answers.specs.declared.errors.Unanswered.TheVariants as answering
 use Rattle.script_parse.specs.Answers.{OfStatement, IsCause}
@@ -28,22 +29,26 @@ use Rattle.lash_command.specs.declared.ending.Refusal.TheVariants.{Syntax, Name,
 use Rattle.lash_command.specs.declared.ending.Ending.{Ending}
 use Rattle.lash_command.specs.declared.ending.Ending.TheVariants.{Finished, Usage, Refused, ReadFault, WriteFault, NoMemory, Unbuilt}
 
+-- the settings of a run: base 2, and 4,194,304 cells for one construction
+abbrev pub default_settings : Settings
+default_settings = record { base = 2; cells = 4194304 }
+
 -- the text, behind so many bytes of the script, is a whole statement within the limits of bytes
 pub record IsWhole (given : ℕ) (text : List ℕ) : Type 0 where
   pub whole : statement_length false text ≡ Some (length text)
   pub within : IsWithinBytes given (length text)
 
 -- the names of the statement are right, it passes no limit, and this is what it asks
-pub record IsAsking (kept : List KeptSet) (asked : Asked) (shape : StatementShape) : Type 0 where
+pub record IsAsking (settings : Settings) (kept : List KeptSet) (asked : Asked) (shape : StatementShape) : Type 0 where
   pub names : statement_fault kept shape ≡ None
-  pub within : IsStatementWithin 2 kept shape
+  pub within : IsStatementWithin settings.base kept shape
   pub asks : meaning.asked kept shape ≡ Some asked
 
 -- such a statement, where these sets are kept, and its piece
-pub record IsAnswered (kept : List KeptSet) (given : ℕ) (text : List ℕ) (asked : Asked) (piece : List ℕ) : Type 0 where
+pub record IsAnswered (settings : Settings) (kept : List KeptSet) (given : ℕ) (text : List ℕ) (asked : Asked) (piece : List ℕ) : Type 0 where
   pub statement : IsWhole given text
-  pub asking : OfStatement (tokens_of given text) (IsAsking kept asked)
-  pub is : IsPieceOf kept asked piece
+  pub asking : OfStatement (tokens_of given text) (IsAsking settings kept asked)
+  pub is : IsPieceOf settings kept asked piece
 
 -- a statement that was answered: its text, what it asks, and its piece
 pub record Answer : Type 0 where
@@ -52,9 +57,9 @@ pub record Answer : Type 0 where
   pub piece : List ℕ
 
 -- each statement has its piece, in their order; the sets that one keeps are there for those behind it
-abbrev pub AreAnswered : List KeptSet → ℕ → List Answer → Type 0
-AreAnswered kept given [] = Unit
-AreAnswered kept given (x ∷ xs) = IsAnswered kept given x.text x.asked x.piece × AreAnswered (grown kept x.asked) (given + length x.text) xs
+abbrev pub AreAnswered : Settings → List KeptSet → ℕ → List Answer → Type 0
+AreAnswered settings kept given [] = Unit
+AreAnswered settings kept given (x ∷ xs) = IsAnswered settings kept given x.text x.asked x.piece × AreAnswered settings (grown kept x.asked) (given + length x.text) xs
 
 -- the sets that are kept behind the statements
 abbrev pub kept_behind : List KeptSet → List Answer → List KeptSet
@@ -77,10 +82,10 @@ pub record Outside : Type 0 where
 
 -- so many statements were taken, each was answered, and the sink has gained exactly their pieces; the bytes that were taken besides are held, and
 -- all that were taken are one more than the limit of a script at the most
-pub record HasCome (before now : Outside) (kept : List KeptSet) (progress : Progress) (answered : ℕ) : Type 0 where
+pub record HasCome (settings : Settings) (before now : Outside) (kept : List KeptSet) (progress : Progress) (answered : ℕ) : Type 0 where
   pub answers : List Answer
   pub count : length answers ≡ answered
-  pub each : AreAnswered [] 0 answers
+  pub each : AreAnswered settings [] 0 answers
   pub keeps : kept ≡ kept_behind [] answers
   pub given : progress.given ≡ length (texts_of answers)
   pub taken : before.left ≡ prepend_known (texts_of answers ++ progress.held) now.left
@@ -94,19 +99,19 @@ abbrev pub Claim : Type 1
 Claim = List KeptSet → Progress → Type 0
 
 -- so many statements were answered, and this is so then
-pub record Stops (before now : Outside) (answered : ℕ) (P : Claim) : Type 0 where
+pub record Stops (settings : Settings) (before now : Outside) (answered : ℕ) (P : Claim) : Type 0 where
   pub kept : List KeptSet
   pub progress : Progress
-  pub come : HasCome before now kept progress answered
+  pub come : HasCome settings before now kept progress answered
   pub is : P kept progress
 
 -- some number of statements was answered
-abbrev pub StopsSomewhere : Outside → Outside → Claim → Type 0
-StopsSomewhere before now P = (answered : ℕ) × Stops before now answered P
+abbrev pub StopsSomewhere : Settings → Outside → Outside → Claim → Type 0
+StopsSomewhere settings before now P = (answered : ℕ) × Stops settings before now answered P
 
 -- the statement of the number is the one that is refused
-abbrev pub StopsAt : Outside → Outside → ℕ → Claim → Type 0
-StopsAt before now number P = (answered : ℕ) × ((number ≡ answered + 1) × Stops before now answered P)
+abbrev pub StopsAt : Settings → Outside → Outside → ℕ → Claim → Type 0
+StopsAt settings before now number P = (answered : ℕ) × ((number ≡ answered + 1) × Stops settings before now answered P)
 
 -- the script is at its end, and what is behind its last statement holds no token
 pub record IsBlankRest (now : Outside) (kept : List KeptSet) (p : Progress) : Type 0 where
@@ -114,64 +119,64 @@ pub record IsBlankRest (now : Outside) (kept : List KeptSet) (p : Progress) : Ty
   pub blank : tokens_of p.given p.held ≡ []
 
 -- the next statement's names are right and it passes no limit, and this is so of what it asks
-pub record IsNextAsked (P : List KeptSet → Asked → Type 0) (kept : List KeptSet) (p : Progress) : Type 0 where
+pub record IsNextAsked (settings : Settings) (P : List KeptSet → Asked → Type 0) (kept : List KeptSet) (p : Progress) : Type 0 where
   pub text : List ℕ
   pub behind : List ℕ
   pub held : p.held ≡ text ++ behind
   pub statement : IsWhole p.given text
   pub asked : Asked
-  pub asking : OfStatement (tokens_of p.given text) (IsAsking kept asked)
+  pub asking : OfStatement (tokens_of p.given text) (IsAsking settings kept asked)
   pub is : P kept asked
 
 -- a part of the next statement's piece was written
-pub record IsPartWritten (between after : Option (List ℕ)) (kept : List KeptSet) (p : Progress) : Type 0 where
+pub record IsPartWritten (settings : Settings) (between after : Option (List ℕ)) (kept : List KeptSet) (p : Progress) : Type 0 where
   pub text : List ℕ
   pub behind : List ℕ
   pub asked : Asked
   pub piece : List ℕ
   pub held : p.held ≡ text ++ behind
-  pub answer : IsAnswered kept p.given text asked piece
+  pub answer : IsAnswered settings kept p.given text asked piece
   pub part : HoldsPart between after piece
 
 -- a fault of the sink was counted, and all pieces before this one were written
-pub record IsCutShort (before now : Outside) : Type 0 where
+pub record IsCutShort (settings : Settings) (before now : Outside) : Type 0 where
   pub counted : IsFaultCounted before.write_faults now.write_faults
   pub between : Option (List ℕ)
-  pub stops : StopsSomewhere before (record now { held = between }) (IsPartWritten between now.held)
+  pub stops : StopsSomewhere settings before (record now { held = between }) (IsPartWritten settings between now.held)
 
 -- the reader of the script has this cause for its error
-abbrev pub IsUnread : Outside → Outside → ScriptError → List KeptSet → Progress → Type 0
-IsUnread before now e kept p = IsCause 2 kept p now.left before.read_faults now.read_faults e
+abbrev pub IsUnread : Settings → Outside → Outside → ScriptError → List KeptSet → Progress → Type 0
+IsUnread settings before now e kept p = IsCause settings.base kept p now.left before.read_faults now.read_faults e
 
 -- how a run ends that has taken the script; of want of memory nothing is said besides
-abbrev pub Ends : Ending → Outside → Outside → Type 0
-Ends Finished before now = StopsSomewhere before now (IsBlankRest now)
-Ends Usage before now = ⊥
-Ends (Refused number (Syntax place)) before now = StopsAt before now number (IsUnread before now (reading.Syntax place))
-Ends (Refused number (Name fault place)) before now = StopsAt before now number (IsUnread before now (reading.Name fault place))
-Ends (Refused number (Limit which)) before now = StopsAt before now number (IsUnread before now (reading.Limit which)) ⊎ ((which ≡ KeptCells) × StopsAt before now number (IsNextAsked IsTooMuch)) ⊎ StopsAt before now number (IsNextAsked (IsPassedByClosure which))
-Ends (Refused number NoPower) before now = StopsAt before now number (IsNextAsked IsPowerless)
-Ends (Refused number Heavy) before now = StopsAt before now number (IsNextAsked IsHeavyAsked)
-Ends ReadFault before now = StopsSomewhere before now (IsUnread before now reading.Read)
-Ends WriteFault before now = IsCutShort before now
-Ends NoMemory before now = StopsSomewhere before now (λ _ _. Unit)
-Ends Unbuilt before now = StopsSomewhere before now (IsUnread before now reading.Unbuilt)
+abbrev pub Ends : Settings → Ending → Outside → Outside → Type 0
+Ends settings Finished before now = StopsSomewhere settings before now (IsBlankRest now)
+Ends settings Usage before now = ⊥
+Ends settings (Refused number (Syntax place)) before now = StopsAt settings before now number (IsUnread settings before now (reading.Syntax place))
+Ends settings (Refused number (Name fault place)) before now = StopsAt settings before now number (IsUnread settings before now (reading.Name fault place))
+Ends settings (Refused number (Limit which)) before now = StopsAt settings before now number (IsUnread settings before now (reading.Limit which)) ⊎ ((which ≡ KeptCells) × StopsAt settings before now number (IsNextAsked settings (IsTooMuch settings))) ⊎ StopsAt settings before now number (IsNextAsked settings (IsPassedByClosure settings which))
+Ends settings (Refused number NoPower) before now = StopsAt settings before now number (IsNextAsked settings IsPowerless)
+Ends settings (Refused number Heavy) before now = StopsAt settings before now number (IsNextAsked settings (IsHeavyAsked settings))
+Ends settings ReadFault before now = StopsSomewhere settings before now (IsUnread settings before now reading.Read)
+Ends settings WriteFault before now = IsCutShort settings before now
+Ends settings NoMemory before now = StopsSomewhere settings before now (λ _ _. Unit)
+Ends settings Unbuilt before now = StopsSomewhere settings before now (IsUnread settings before now reading.Unbuilt)
 
 -- where there are words nothing is taken
-abbrev pub Explains : Ending → ℕ → Outside → Outside → Type 0
-Explains e words before now = ((0 < words) × ((e ≡ Unbuilt) × (now ≡ before))) ⊎ ((words ≡ 0) × Ends e before now)
+abbrev pub Explains : Settings → Ending → ℕ → Outside → Outside → Type 0
+Explains settings e words before now = ((0 < words) × ((e ≡ Unbuilt) × (now ≡ before))) ⊎ ((words ≡ 0) × Ends settings e before now)
 
 -- the status is that of an ending that comes so, and its line was reported
-pub record Answers (status : Status) (words : ℕ) (before now : Outside) (err_before err_now : Option (List ℕ)) (err_faults_before err_faults_now : ℕ) : Type 0 where
+pub record Answers (settings : Settings) (status : Status) (words : ℕ) (before now : Outside) (err_before err_now : Option (List ℕ)) (err_faults_before err_faults_now : ℕ) : Type 0 where
   pub ending : Ending
   pub status_is : status ≡ status_of ending
-  pub explained : Explains ending words before now
+  pub explained : Explains settings ending words before now
   pub reported : IsReported (line_of ending) err_before err_now err_faults_before err_faults_now
 
 -- one statement more was answered, or the run ends
-abbrev pub Turns : Outside → Outside → List KeptSet → Progress → ℕ → {U : Type 0} → Result U Ending → Type 0
-Turns before now kept progress answered (Ok u) = HasCome before now kept progress (answered + 1)
-Turns before now kept progress answered (Err e) = Ends e before now
+abbrev pub Turns : Settings → Outside → Outside → List KeptSet → Progress → ℕ → {U : Type 0} → Result U Ending → Type 0
+Turns settings before now kept progress answered (Ok u) = HasCome settings before now kept progress (answered + 1)
+Turns settings before now kept progress answered (Err e) = Ends settings e before now
 
 -- how the run ends where the reader of the script gives no statement of the number
 abbrev pub unread_ending : ℕ → ScriptError → Ending

@@ -8,7 +8,7 @@ use script_meaning::Which;
 use script_names::NameFault;
 
 /// Why a statement is refused. A place is a number of script bytes.
-#[derive(Clone, Copy, Debug, PartialEq, Eq)]
+#[derive(Debug, Drop, PartialEq, Eq)]
 pub enum Refusal {
     /// No statement goes on with the token at the place.
     Syntax { place: u64 },
@@ -23,7 +23,7 @@ pub enum Refusal {
 }
 
 /// How a run ends. Statements are counted from 1.
-#[derive(Clone, Copy, Debug, PartialEq, Eq)]
+#[derive(Debug, Drop, PartialEq, Eq)]
 pub enum Ending {
     /// All statements are answered.
     Finished,

@@ -9,6 +9,7 @@ ghost use Rattle.script_names.specs.Kept.{KeptSet};
 ghost use Rattle.loop_laws.specs.Turns.{after};
 ghost use Rattle.loop_meaning.specs.Looping.{loop_body};
 ghost use Rattle.statement_answers.specs.Loops.{HasPairs, pairs_of};
+ghost use Rattle.statement_answers.specs.declared.settings.Settings.{Settings};
 ghost use Rattle.lash_command.specs.Answers.{Explains, Outside};
 ghost use Rattle.lash_command.specs.Scripts.{AreAllAnswered, IsGoodScript, Written, is_decided};
 ghost use Rattle.lash_command.specs.declared.ending.Ending.TheVariants.{Finished, NoMemory};
@@ -20,7 +21,7 @@ use statement_answers::answers_have_one_cause;
 /// The formula that a loop of a script keeps holds of two vectors of fractions, with an entry for each variable, exactly where some number of
 /// turns, each allowed by the guard, leads from the first to the second.
 pub fn kept_loops_are_their_turns()
-    ensures { (kept : List KeptSet) (vars : List DeclarationShape) (t : TurnShape) (x y : List ℤ) (d : ℕ) → HasPairs (loop_body kept vars t) → length x ≡ length vars → length y ≡ length vars → 0 < d → holds (pairs_of (loop_body kept vars t)) (x ++ y) d ↔ ((k : ℕ) × after (loop_body kept vars t) d k x y) }
+    ensures { (base : ℕ) (kept : List KeptSet) (vars : List DeclarationShape) (t : TurnShape) (x y : List ℤ) (d : ℕ) → HasPairs base (loop_body kept vars t) → length x ≡ length vars → length y ≡ length vars → 0 < d → holds (pairs_of (loop_body kept vars t)) (x ++ y) d ↔ ((k : ℕ) × after (loop_body kept vars t) d k x y) }
 {
     closure_joins_turns();
 }
@@ -28,7 +29,7 @@ pub fn kept_loops_are_their_turns()
 /// Two runs on the same bytes and as many words, over any sources and sinks that tell their bytes, end alike, unless one ends for want of memory
 /// or at a fault: the same statement is refused, for the same cause at the same place.
 pub fn runs_have_one_ending()
-    ensures { (e f : Ending) (words : ℕ) (bytes : List ℕ) (before now other after : Outside) → before.left ≡ Some bytes → other.left ≡ Some bytes → is_decided e ≡ true → is_decided f ≡ true → Explains e words before now → Explains f words other after → e ≡ f }
+    ensures { (settings : Settings) (e f : Ending) (words : ℕ) (bytes : List ℕ) (before now other after : Outside) → before.left ≡ Some bytes → other.left ≡ Some bytes → is_decided e ≡ true → is_decided f ≡ true → Explains settings e words before now → Explains settings f words other after → e ≡ f }
 {
     answers_have_one_cause();
 }
@@ -36,7 +37,7 @@ pub fn runs_have_one_ending()
 /// A script of good statements and a blank rest, on which no fault is counted, is answered to its end, or ends for want of memory: each statement
 /// has its piece, the source is at its end, and the sink has gained exactly the pieces.
 pub fn good_scripts_finish()
-    ensures { (e : Ending) (bytes : List ℕ) (before now : Outside) (xs : List Written) → before.left ≡ Some bytes → IsGoodScript bytes xs → (IsFaultCounted before.read_faults now.read_faults → ⊥) → (IsFaultCounted before.write_faults now.write_faults → ⊥) → Explains e 0 before now → ((e ≡ Finished) × AreAllAnswered before now xs) ⊎ (e ≡ NoMemory) }
+    ensures { (settings : Settings) (e : Ending) (bytes : List ℕ) (before now : Outside) (xs : List Written) → before.left ≡ Some bytes → IsGoodScript settings bytes xs → (IsFaultCounted before.read_faults now.read_faults → ⊥) → (IsFaultCounted before.write_faults now.write_faults → ⊥) → Explains settings e 0 before now → ((e ≡ Finished) × AreAllAnswered settings before now xs) ⊎ (e ≡ NoMemory) }
 {
     answers_have_one_cause();
 }

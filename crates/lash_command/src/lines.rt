@@ -70,15 +70,15 @@ fn put_limit<E: Sink>(block: &mut Block, sink: &mut E, which: Which) -> Result<(
 }
 
 /// Puts why a statement is refused.
-fn put_refusal<E: Sink>(block: &mut Block, sink: &mut E, refusal: Refusal) -> Result<(), Failed>
-    ensures bytes { Passes (E.held sink.old) block.old (E.held sink.new) block.new result (refusal_text refusal) }
+fn put_refusal<E: Sink>(block: &mut Block, sink: &mut E, refusal: &Refusal) -> Result<(), Failed>
+    ensures bytes { Passes (E.held sink.old) block.old (E.held sink.new) block.new result (refusal_text refusal.now) }
     ensures count { E.faults sink.old ≤ E.faults sink.new }
     ensures cause { OnErr result (IsFaultCounted (E.faults sink.old) (E.faults sink.new)) }
 {
     match refusal {
-        Refusal::Syntax { place } => put_place(block, sink, b"syntax", place),
-        Refusal::Name { fault, place } => put_place(block, sink, words_of_fault(fault), place),
-        Refusal::Limit { which } => put_limit(block, sink, which),
+        Refusal::Syntax { place } => put_place(block, sink, b"syntax", *place),
+        Refusal::Name { fault, place } => put_place(block, sink, words_of_fault(*fault), *place),
+        Refusal::Limit { which } => put_limit(block, sink, *which),
         Refusal::NoPower => block.put(sink, b"no power"),
         Refusal::Heavy => block.put(sink, b"heavy"),
     }
@@ -89,9 +89,9 @@ fn put_refused<E: Sink>(
     block: &mut Block,
     sink: &mut E,
     statement: u64,
-    refusal: Refusal,
+    refusal: &Refusal,
 ) -> Result<(), Failed>
-    ensures bytes { Passes (E.held sink.old) block.old (E.held sink.new) block.new result (refused_line statement refusal) }
+    ensures bytes { Passes (E.held sink.old) block.old (E.held sink.new) block.new result (refused_line statement refusal.now) }
     ensures count { E.faults sink.old ≤ E.faults sink.new }
     ensures cause { OnErr result (IsFaultCounted (E.faults sink.old) (E.faults sink.new)) }
 {
@@ -103,15 +103,15 @@ fn put_refused<E: Sink>(
 }
 
 /// Puts the line of an ending.
-fn put_line<E: Sink>(block: &mut Block, sink: &mut E, ending: Ending) -> Result<(), Failed>
-    ensures bytes { Passes (E.held sink.old) block.old (E.held sink.new) block.new result (line_of ending) }
+fn put_line<E: Sink>(block: &mut Block, sink: &mut E, ending: &Ending) -> Result<(), Failed>
+    ensures bytes { Passes (E.held sink.old) block.old (E.held sink.new) block.new result (line_of ending.now) }
     ensures count { E.faults sink.old ≤ E.faults sink.new }
     ensures cause { OnErr result (IsFaultCounted (E.faults sink.old) (E.faults sink.new)) }
 {
     match ending {
         Ending::Finished => block.put(sink, b""),
         Ending::Usage => block.put(sink, b"lash: usage: lash [-b BASE] [-m CELLS] [--gen N]\n"),
-        Ending::Refused { statement, refusal } => put_refused(block, sink, statement, refusal),
+        Ending::Refused { statement, refusal } => put_refused(block, sink, *statement, refusal),
         Ending::ReadFault => block.put(sink, b"lash: read fault\n"),
         Ending::WriteFault => block.put(sink, b"lash: write fault\n"),
         Ending::NoMemory => block.put(sink, b"lash: no memory\n"),
@@ -120,8 +120,8 @@ fn put_line<E: Sink>(block: &mut Block, sink: &mut E, ending: Ending) -> Result<
 }
 
 /// Writes the line of an ending, in one block.
-fn write_line<E: Sink>(ending: Ending, err: &mut E) -> Result<(), Failed>
-    ensures text { Puts (E.held err.old) (E.held err.new) result (line_of ending) }
+fn write_line<E: Sink>(ending: &Ending, err: &mut E) -> Result<(), Failed>
+    ensures text { Puts (E.held err.old) (E.held err.new) result (line_of ending.now) }
     ensures cause { OnErr result (IsFaultCounted (E.faults err.old) (E.faults err.new)) }
 {
     let mut block = Block::new();
@@ -130,8 +130,8 @@ fn write_line<E: Sink>(ending: Ending, err: &mut E) -> Result<(), Failed>
 }
 
 /// Writes the line of an ending, all of it or, where a fault of the sink is counted, a part.
-pub fn report<E: Sink>(ending: Ending, err: &mut E)
-    ensures { IsReported (line_of ending) (E.held err.old) (E.held err.new) (E.faults err.old) (E.faults err.new) }
+pub fn report<E: Sink>(ending: &Ending, err: &mut E)
+    ensures { IsReported (line_of ending.now) (E.held err.old) (E.held err.new) (E.faults err.old) (E.faults err.new) }
 {
     match write_line(ending, err) {
         Ok(()) => {}

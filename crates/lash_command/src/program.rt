@@ -1,14 +1,16 @@
 //! The whole program, over any source and sinks.
 
-ghost use Rattle.std.specs.Prelude.{◌≡◌, length};
-ghost use Rattle.lash_command.specs.Answers.{Outside, Answers, Explains};
+ghost use Rattle.std.specs.Prelude.{◌≡◌, ◌≤◌, length};
+ghost use Rattle.lash_command.specs.Answers.{Answers, Explains, Outside, default_settings};
 ghost use Rattle.lash_command.specs.Lines.{IsReported, line_of};
 
 use crate::ending::Ending;
 use crate::lines::report;
 use crate::session::session;
 use crate::status::Status;
+use digit_codes::Base;
 use lash_io::{Sink, Source};
+use statement_answers::Settings;
 use std::alloc::Global;
 
 /// Runs the program: answers the statements of the script one after another to `out`, until the script's end or the first statement that
@@ -25,19 +27,40 @@ pub fn run<S: Source, K: Sink, E: Sink>(
     out: &mut K,
     err: &mut E,
 ) -> Status
-    ensures { Answers result (length words.now) (record { left = S.left input.old; read_faults = S.faults input.old; held = K.held out.old; write_faults = K.faults out.old }) (record { left = S.left input.new; read_faults = S.faults input.new; held = K.held out.new; write_faults = K.faults out.new }) (E.held err.old) (E.held err.new) (E.faults err.old) (E.faults err.new) }
+    ensures { Answers default_settings result (length words.now) (record { left = S.left input.old; read_faults = S.faults input.old; held = K.held out.old; write_faults = K.faults out.old }) (record { left = S.left input.new; read_faults = S.faults input.new; held = K.held out.new; write_faults = K.faults out.new }) (E.held err.old) (E.held err.new) (E.faults err.old) (E.faults err.new) }
 {
-    let ending = answer(alloc, words, input, out);
-    report(ending, err);
+    let ending = answer(alloc, defaults(), words, input, out);
+    report(&ending, err);
     ending.status()
 }
 
+/// The settings of a run: base 2, and 4,194,304 cells for one construction.
+fn defaults() -> Settings
+    ensures settings { result ≡ default_settings }
+    ensures limit { result.cells ≤ 16777216 }
+{
+    match Base::new(2) {
+        Some(base) => Settings {
+            base,
+            cells: 4_194_304,
+        },
+        None => unreachable!(),
+    }
+}
+
 /// Takes the script and answers it.
-fn answer<S: Source, K: Sink>(alloc: Global, words: &[String], input: &mut S, out: &mut K) -> Ending
-    ensures { Explains result (length words.now) (record { left = S.left input.old; read_faults = S.faults input.old; held = K.held out.old; write_faults = K.faults out.old }) (record { left = S.left input.new; read_faults = S.faults input.new; held = K.held out.new; write_faults = K.faults out.new }) }
+fn answer<S: Source, K: Sink>(
+    alloc: Global,
+    settings: Settings,
+    words: &[String],
+    input: &mut S,
+    out: &mut K,
+) -> Ending
+    requires { settings.cells ≤ 16777216 }
+    ensures { Explains settings result (length words.now) (record { left = S.left input.old; read_faults = S.faults input.old; held = K.held out.old; write_faults = K.faults out.old }) (record { left = S.left input.new; read_faults = S.faults input.new; held = K.held out.new; write_faults = K.faults out.new }) }
 {
     if !words.is_empty() {
         return Ending::Unbuilt;
     }
-    session(alloc, input, out)
+    session(alloc, settings, input, out)
 }

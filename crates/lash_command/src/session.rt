@@ -1,6 +1,7 @@
 //! A session: the statements of a script are answered in their order, until the script is at its end or one is refused. Own.
 
 ghost use Rattle.std.specs.Prelude.{◌≡◌, ◌≤◌, ◌<◌, true, IfOk};
+ghost use Rattle.statement_answers.specs.Automata.{AreOfIntegers};
 ghost use Rattle.statement_answers.specs.Keeping.{sets_kept};
 ghost use Rattle.lash_command.specs.Answers.{Outside, HasCome, Ends, Turns, unread_ending, unanswered_ending};
 
@@ -8,7 +9,7 @@ use crate::ending::{Ending, Refusal};
 use lash_io::{Memory, Sink, Source};
 use script_meaning::Which;
 use script_parse::{ScriptError, Statements, built_statements_are_plain};
-use statement_answers::{Library, Unanswered, answer, binary};
+use statement_answers::{Library, Settings, Unanswered, answer};
 use std::alloc::Global;
 
 /// How the run ends where the reader of the script gives no statement of the number.
@@ -52,14 +53,17 @@ fn turn<S: Source, K: Sink>(
     input: &mut S,
     out: &mut K,
 ) -> Result<(), Ending>
-    requires base { statements.old.base ≡ 2 }
+    requires base { statements.old.base ≡ library.old.settings.base }
+    requires integers { AreOfIntegers (sets_kept library.old) }
     requires live { statements.old.live ≡ true }
     requires few { answered ≤ 16777216 }
-    ensures base { statements.new.base ≡ 2 }
+    ensures base { statements.new.base ≡ statements.old.base }
+    ensures settings { library.new.settings ≡ library.old.settings }
+    ensures integers { IfOk result (λ _. AreOfIntegers (sets_kept library.new)) }
     ensures live { IfOk result (λ _. statements.new.live ≡ true) }
     ensures grown { IfOk result (λ _. statements.old.progress.given < statements.new.progress.given) }
     ensures within { IfOk result (λ _. statements.new.progress.given ≤ 16777216) }
-    ensures comes { (before : Outside) → HasCome before (record { left = S.left input.old; read_faults = S.faults input.old; held = K.held out.old; write_faults = K.faults out.old }) (sets_kept library.old) statements.old.progress answered → Turns before (record { left = S.left input.new; read_faults = S.faults input.new; held = K.held out.new; write_faults = K.faults out.new }) (sets_kept library.new) statements.new.progress answered result }
+    ensures comes { (before : Outside) → HasCome library.old.settings before (record { left = S.left input.old; read_faults = S.faults input.old; held = K.held out.old; write_faults = K.faults out.old }) (sets_kept library.old) statements.old.progress answered → Turns library.old.settings before (record { left = S.left input.new; read_faults = S.faults input.new; held = K.held out.new; write_faults = K.faults out.new }) (sets_kept library.new) statements.new.progress answered result }
 {
     built_statements_are_plain();
     match statements.next(alloc, library.defs(), input) {
@@ -73,14 +77,20 @@ fn turn<S: Source, K: Sink>(
 }
 
 /// Answers a script: each statement in turn, until its end or the first refusal.
-pub(crate) fn session<S: Source, K: Sink>(alloc: Global, input: &mut S, out: &mut K) -> Ending
-    ensures { Ends result (record { left = S.left input.old; read_faults = S.faults input.old; held = K.held out.old; write_faults = K.faults out.old }) (record { left = S.left input.new; read_faults = S.faults input.new; held = K.held out.new; write_faults = K.faults out.new }) }
+pub(crate) fn session<S: Source, K: Sink>(
+    alloc: Global,
+    settings: Settings,
+    input: &mut S,
+    out: &mut K,
+) -> Ending
+    requires { settings.cells ≤ 16777216 }
+    ensures { Ends settings result (record { left = S.left input.old; read_faults = S.faults input.old; held = K.held out.old; write_faults = K.faults out.old }) (record { left = S.left input.new; read_faults = S.faults input.new; held = K.held out.new; write_faults = K.faults out.new }) }
 {
-    let mut statements = match Statements::new(alloc, binary()) {
+    let mut statements = match Statements::new(alloc, settings.base) {
         Ok(statements) => statements,
         Err(Memory) => return Ending::NoMemory,
     };
-    let mut library = Library::new(alloc);
+    let mut library = Library::new(alloc, settings);
     let mut answered = 0;
     'statements: loop {
         match turn(alloc, &mut statements, &mut library, answered, input, out) {

@@ -7,12 +7,15 @@ use Rattle.lash_model.specs.Meaning.{Solves}
 use Rattle.lash_model.specs.Words.{value, values}
 use Rattle.lash_model.specs.Tables.{Table, IsTable}
 use Rattle.lash_model.specs.Standing.{StandsForWhole, StandsFor, all_int}
+use Rattle.formula_core.specs.Variables.{sorts_of}
 use Rattle.automaton_texts.specs.Text.{text_of}
 use Rattle.canonical_laws.specs.Canonical.{IsCanonical, AgreeOnWords}
 use Rattle.canonical_laws.proofs.Diagrams.{diagrams_unique}
 use Rattle.canonical_laws.proofs.Carrying.{agreeing_accept, standing_agree}
 use Rattle.automaton_texts.proofs.TextReading.{texts_tell}
 use Rattle.set_answers.specs.Agreement.{Agree, IsCanonicalOf}
+use Rattle.set_answers.specs.Sorts.{AreIntegers}
+use Rattle.set_answers.proofs.IntegerSorts.{of_sorts}
 use Rattle.set_answers.proofs.Diagrams.{whole}
 use Rattle.set_answers.proofs.SolvingWords.{word_of, values_vector}
 
@@ -27,8 +30,8 @@ agree_from_words base n f g h a ns d v = (
 )
 
 -- ---- tables
-pub tables_agree : (t u : Table) (n : ℕ) (f g : Formula) → IsCanonical t → IsCanonical u → t.base ≡ u.base → t.tracks ≡ n → u.tracks ≡ n → StandsFor t (all_int n) f → StandsFor u (all_int n) g → (t ≡ u) ↔ Agree (all_int n) f g
-tables_agree t u n f g ct cu base left right sf sg = (
+counted_agree : (t u : Table) (n : ℕ) (f g : Formula) → IsCanonical t → IsCanonical u → t.base ≡ u.base → t.tracks ≡ n → u.tracks ≡ n → StandsFor t (all_int n) f → StandsFor u (all_int n) g → (t ≡ u) ↔ Agree (all_int n) f g
+counted_agree t u n f g ct cu base left right sf sg = (
   λ e. agree_from_words t.base n f g ct.table.shape.base_low (subst (λ k. AgreeOnWords t.base k (Solves (all_int n) f) (Solves (all_int n) g)) left (standing_agree t (Solves (all_int n) f) (Solves (all_int n) g) wf (subst (λ v. StandsForWhole v (Solves (all_int n) g)) (sym e) wg))),
   λ a. diagrams_unique t u ct cu base (left ∙ sym right) (agreeing_accept t u (Solves (all_int n) f) (Solves (all_int n) g) base (left ∙ sym right) wf wg (subst (λ k. AgreeOnWords t.base k (Solves (all_int n) f) (Solves (all_int n) g)) (sym left) (agree_on_words t.base n f g a))),
 )
@@ -39,14 +42,17 @@ tables_agree t u n f g ct cu base left right sf sg = (
     wg : StandsForWhole u (Solves (all_int n) g)
     wg = whole u n g cu.table right sg
 
+pub tables_agree : (t u : Table) (sorts : List Sort) (f g : Formula) → AreIntegers sorts → IsCanonical t → IsCanonical u → t.base ≡ u.base → t.tracks ≡ length sorts → u.tracks ≡ length sorts → StandsFor t sorts f → StandsFor u sorts g → (t ≡ u) ↔ Agree sorts f g
+tables_agree t u sorts f g integers ct cu base left right = of_sorts (λ ss. StandsFor t ss f → StandsFor u ss g → (t ≡ u) ↔ Agree ss f g) sorts integers (counted_agree t u (length sorts) f g ct cu base left right)
+
 -- ---- the canonical tables of two sets in one base
-same_tables : (base n : ℕ) (f g : Formula) (t u : Table) → IsCanonicalOf base n f t → IsCanonicalOf base n g u → (t ≡ u) ↔ Agree (all_int n) f g
-same_tables base n f g t u a b = tables_agree t u n f g a.canonical b.canonical (a.base_is ∙ sym b.base_is) a.tracks_are b.tracks_are a.stands b.stands
+same_tables : (base : ℕ) (sorts : List Sort) (f g : Formula) (t u : Table) → AreIntegers sorts → IsCanonicalOf base sorts f t → IsCanonicalOf base sorts g u → (t ≡ u) ↔ Agree sorts f g
+same_tables base sorts f g t u integers a b = tables_agree t u sorts f g integers a.canonical b.canonical (a.base_is ∙ sym b.base_is) a.tracks_are b.tracks_are a.stands b.stands
 
 -- one text where the same vectors solve both sets
-pub texts_equal : (base : ℕ) (vars : List (List ℕ × Sort)) (f g : Formula) (t u : Table) → IsCanonicalOf base (length vars) f t → IsCanonicalOf base (length vars) g u → Agree (all_int (length vars)) f g → text_of vars t ≡ text_of vars u
-texts_equal base vars f g t u a b h = ap (text_of vars) ((same_tables base (length vars) f g t u a b).1 h)
+pub texts_equal : (base : ℕ) (vars : List (List ℕ × Sort)) (f g : Formula) (t u : Table) → AreIntegers (sorts_of vars) → IsCanonicalOf base (sorts_of vars) f t → IsCanonicalOf base (sorts_of vars) g u → Agree (sorts_of vars) f g → text_of vars t ≡ text_of vars u
+texts_equal base vars f g t u integers a b h = ap (text_of vars) ((same_tables base (sorts_of vars) f g t u integers a b).1 h)
 
 -- and the other way round
-pub sets_agree : (base : ℕ) (vars : List (List ℕ × Sort)) (f g : Formula) (t u : Table) → IsCanonicalOf base (length vars) f t → IsCanonicalOf base (length vars) g u → text_of vars t ≡ text_of vars u → Agree (all_int (length vars)) f g
-sets_agree base vars f g t u a b e = (same_tables base (length vars) f g t u a b).0 (texts_tell vars t u a.canonical.table b.canonical.table a.canonical.diagram b.canonical.diagram (a.base_is ∙ sym b.base_is) (a.tracks_are ∙ sym b.tracks_are) e)
+pub sets_agree : (base : ℕ) (vars : List (List ℕ × Sort)) (f g : Formula) (t u : Table) → AreIntegers (sorts_of vars) → IsCanonicalOf base (sorts_of vars) f t → IsCanonicalOf base (sorts_of vars) g u → text_of vars t ≡ text_of vars u → Agree (sorts_of vars) f g
+sets_agree base vars f g t u integers a b e = (same_tables base (sorts_of vars) f g t u integers a b).0 (texts_tell vars t u a.canonical.table b.canonical.table a.canonical.diagram b.canonical.diagram (a.base_is ∙ sym b.base_is) (a.tracks_are ∙ sym b.tracks_are) e)

@@ -10,7 +10,7 @@ use Rattle.graph_laws.specs.Walks.{go}
 use Rattle.graph_laws.specs.Paths.{Path, path_at, start_path}
 use Rattle.graph_laws.specs.Exploring.{after, IsPath}
 use Rattle.graph_laws.proofs.Positions.{own_position}
-use Rattle.lash_model.specs.Formulas.{Formula}
+use Rattle.lash_model.specs.Formulas.{Sort, Formula}
 use Rattle.lash_model.specs.Meaning.{holds, Solves}
 use Rattle.lash_model.specs.Words.{value, values}
 use Rattle.lash_model.specs.Tables.{Table, letters, ints, IsTable}
@@ -26,6 +26,8 @@ use Rattle.product_ops.specs.declared.operation.Op.TheVariants.{AndNot}
 use Rattle.product_ops.proofs.PairRuns.{starts_count}
 use Rattle.set_answers.specs.Agreement.{Includes}
 use Rattle.set_answers.specs.Differences.{all_tracks}
+use Rattle.set_answers.specs.Sorts.{AreIntegers}
+use Rattle.set_answers.proofs.IntegerSorts.{of_sorts}
 use Rattle.set_answers.proofs.Diagrams.{whole, stands_for_meaning}
 use Rattle.set_answers.proofs.SolvingWords.{word_of, values_vector}
 use Rattle.set_answers.proofs.SharedTracks.{picked}
@@ -132,11 +134,11 @@ nothing_left a b t n limit f g h includes q lt said =
     found.1 (includes (values t.base n x.sign x.word) 1 (values_vector t.base n x.sign x.word) found.0).0
 
 -- what a product of the two over all tracks says of its answer
-pub subset_is : (a b t : Table) (m : TrackLists) (k n limit : ℕ) (f g : Formula) (answer : Bool) → IsCanonical a → IsCanonical b → a.base ≡ b.base → a.tracks ≡ b.tracks → k ≡ a.tracks → m ≡ all_tracks k
+counted_is : (a b t : Table) (m : TrackLists) (k n limit : ℕ) (f g : Formula) (answer : Bool) → IsCanonical a → IsCanonical b → a.base ≡ b.base → a.tracks ≡ b.tracks → k ≡ a.tracks → m ≡ all_tracks k
     → IsTable t → t.base ≡ a.base → t.tracks ≡ m.tracks → IsPairTable AndNot a b m limit t
     → ((P Q : Formula) → StandsForWhole a (holds P) → StandsForWhole b (holds Q) → StandsForWhole t (joined AndNot (holds P) (holds Q) m))
     → IsTrue answer ↔ SaysNo t → a.tracks ≡ n → StandsFor a (all_int n) f → StandsFor b (all_int n) g → IsTrue answer ↔ Includes (all_int n) f g
-subset_is a b t m k n limit f g answer ca cb base tracks count map table t_base t_tracks pairs_are stands says e sf sg = (
+counted_is a b t m k n limit f g answer ca cb base tracks count map table t_base t_tracks pairs_are stands says e sf sg = (
   λ y. included a b t n limit f g facts (says.0 y),
   λ i. says.1 (nothing_left a b t n limit f g facts i),
 )
@@ -164,3 +166,12 @@ subset_is a b t m k n limit f g answer ca cb base tracks count map table t_base 
       right_set = right_set;
       stands = subst (λ x. StandsForWhole t (joined AndNot (holds f) (holds g) x)) all (stands f g (stands_for_meaning a (all_int n) f left_set) (stands_for_meaning b (all_int n) g right_set));
     }
+
+-- over sorts that are all integers
+pub subset_is : (a b t : Table) (m : TrackLists) (k : ℕ) (sorts : List Sort) (limit : ℕ) (f g : Formula) (answer : Bool) → AreIntegers sorts → IsCanonical a → IsCanonical b → a.base ≡ b.base → a.tracks ≡ b.tracks → k ≡ a.tracks → m ≡ all_tracks k
+    → IsTable t → t.base ≡ a.base → t.tracks ≡ m.tracks → IsPairTable AndNot a b m limit t
+    → ((P Q : Formula) → StandsForWhole a (holds P) → StandsForWhole b (holds Q) → StandsForWhole t (joined AndNot (holds P) (holds Q) m))
+    → IsTrue answer ↔ SaysNo t → a.tracks ≡ length sorts → StandsFor a sorts f → StandsFor b sorts g → IsTrue answer ↔ Includes sorts f g
+subset_is a b t m k sorts limit f g answer integers ca cb base tracks count map table t_base t_tracks pairs_are stands says e =
+    of_sorts (λ ss. StandsFor a ss f → StandsFor b ss g → IsTrue answer ↔ Includes ss f g) sorts integers
+    (counted_is a b t m k (length sorts) limit f g answer ca cb base tracks count map table t_base t_tracks pairs_are stands says e)

@@ -1,3 +1,4 @@
+pub mod IntegerSorts
 pub mod VectorWords
 pub mod Diagrams
 pub mod SolvingWords

@@ -22,6 +22,8 @@ use Rattle.solution_pick.specs.Solutions.{AcceptsNothing, IsLeastAccepted}
 use Rattle.solution_pick.proofs.Accepted.{not_both, one_path}
 use Rattle.set_answers.specs.Agreement.{IsEmptySet}
 use Rattle.set_answers.specs.Solving.{AreFound, solution_text, IsFixedSolution, IsSolutionText, IsSolved}
+use Rattle.set_answers.specs.Sorts.{AreIntegers}
+use Rattle.set_answers.proofs.IntegerSorts.{of_sorts}
 use Rattle.set_answers.proofs.Diagrams.{whole}
 use Rattle.set_answers.proofs.SolvingWords.{word_of, values_vector, scaled}
 use Rattle.set_answers.proofs.UniqueValues.{found_is_one}
@@ -55,11 +57,15 @@ no_solution_text : (vars : List (List ℕ × Sort)) (t : Table) → IsSolutionTe
 unfolding solution_text
 no_solution_text vars t s = first_apart _ s.is
 
-pub empty_is_written : (vars : List (List ℕ × Sort)) (t : Table) (n : ℕ) (f : Formula) → IsTable t → t.tracks ≡ n → StandsFor t (all_int n) f → IsSolved vars t (codes "empty\n") ↔ IsEmptySet (all_int n) f
-empty_is_written vars t n f h e s = (
+counted_empty : (vars : List (List ℕ × Sort)) (t : Table) (n : ℕ) (f : Formula) → IsTable t → t.tracks ≡ n → StandsFor t (all_int n) f → IsSolved vars t (codes "empty\n") ↔ IsEmptySet (all_int n) f
+counted_empty vars t n f h e s = (
   λ written. elim written [ inl none ↦ nothing_solves t n f h e (whole t n f h e s) none.0 | inr text ↦ absurd (no_solution_text vars t text) ],
   λ empty. inl (accepts_nothing t n f e (whole t n f h e s) empty, refl),
 )
+
+-- over sorts that are all integers
+pub empty_is_written : (vars : List (List ℕ × Sort)) (t : Table) (sorts : List Sort) (f : Formula) → AreIntegers sorts → IsTable t → t.tracks ≡ length sorts → StandsFor t sorts f → IsSolved vars t (codes "empty\n") ↔ IsEmptySet sorts f
+empty_is_written vars t sorts f integers h e = of_sorts (λ ss. StandsFor t ss f → IsSolved vars t (codes "empty\n") ↔ IsEmptySet ss f) sorts integers (counted_empty vars t (length sorts) f h e)
 
 -- ---- the fixed solution solves the set
 zero_at : (r n i x : ℕ) → x ≡ 0 → slice_index (digits r n x) i ≡ 0
@@ -126,10 +132,13 @@ ended_solves (suc (suc c)) n sign w f h s =
     subst (λ d. Solves (all_int n) f (numerators (suc (suc c)) n (ended sign w)) d) (sym (ended_denominator c sign w))
     ((scaled n f c (values (suc (suc c)) n sign w) (numerators (suc (suc c)) n (ended sign w)) (ended_numerators c n sign w)).1 s)
 
-pub fixed_solves : (t : Table) (n : ℕ) (f : Formula) (x : Lasso) → IsTable t → t.tracks ≡ n → StandsFor t (all_int n) f → IsFixedSolution t x → Solves (all_int n) f (numerators t.base n x) (denominator t.base x)
-fixed_solves t n f x h e s fixed =
+counted_solves : (t : Table) (n : ℕ) (f : Formula) (x : Lasso) → IsTable t → t.tracks ≡ n → StandsFor t (all_int n) f → IsFixedSolution t x → Solves (all_int n) f (numerators t.base n x) (denominator t.base x)
+counted_solves t n f x h e s fixed =
     subst (λ y. Solves (all_int n) f (numerators t.base n y) (denominator t.base y)) (sym (fixed_is_ended t x fixed))
     (ended_solves t.base n x.sign x.whole f h.shape.base_low ((of_word t n f e (whole t n f h e s) x.sign x.whole fixed.least.sign_in fixed.least.letters_in).0 fixed.least.accepted))
+
+pub fixed_solves : (t : Table) (sorts : List Sort) (f : Formula) (x : Lasso) → AreIntegers sorts → IsTable t → t.tracks ≡ length sorts → StandsFor t sorts f → IsFixedSolution t x → Solves sorts f (numerators t.base (length sorts) x) (denominator t.base x)
+fixed_solves t sorts f x integers h e s fixed = of_sorts (λ ss. StandsFor t ss f → Solves ss f (numerators t.base (length sorts) x) (denominator t.base x)) sorts integers (λ stands. counted_solves t (length sorts) f x h e stands fixed) s
 
 -- ---- one answer
 one_lasso : (t : Table) (x y : Lasso) → IsFixedSolution t x → IsFixedSolution t y → x ≡ y

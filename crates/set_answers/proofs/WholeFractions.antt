@@ -13,7 +13,7 @@ use Rattle.std.proofs.lemmas.Option.{slice_get-get_or, get_or_from_slice_get, sl
 use Rattle.integer_laws.specs.Vectors.{scale}
 use Rattle.integer_laws.proofs.Entries.{length-vector_from, entry-vector, entry-scale}
 use Rattle.integer_laws.proofs.Ring.{times_comm, times_assoc, eq_unscaled}
-use Rattle.lash_model.specs.Formulas.{Formula}
+use Rattle.lash_model.specs.Formulas.{Sort, Formula}
 use Rattle.lash_model.specs.Lassos.{Lasso}
 use Rattle.lash_model.specs.Meaning.{IsWhole, Solves}
 use Rattle.lash_model.specs.Words.{value, values}
@@ -23,7 +23,9 @@ use Rattle.fraction_codes.specs.FixedCodes.{Encodes}
 use Rattle.fraction_codes.specs.declared.ratio.Ratio.{Ratio}
 use Rattle.fraction_codes.proofs.Divisors.{multiple}
 use Rattle.fraction_codes.proofs.Flooring.{floor_parts, above_below, to_above}
+use Rattle.set_answers.specs.Sorts.{AreIntegers}
 use Rattle.set_answers.specs.Vectors.{IsVectorOf}
+use Rattle.set_answers.proofs.IntegerSorts.{of_sorts}
 use Rattle.set_answers.proofs.SolvingWords.{WholeVector, whole_vector, length-scale, scaled}
 
 -- ---- one fraction
@@ -87,9 +89,12 @@ whole_entries vs n ns c e small h w i d lt =
     let at : slice_index_or ns i (pos 0) ≡ pos (suc c) *ℤ m = ap (λ xs. slice_index_or xs i (pos 0)) whole.is ∙ entry-scale (suc c) whole.numbers i in
     whole_from_multiple v m (eq_unscaled c v.num (m *ℤ v.den) (times_comm (pos (suc c)) v.num ∙ sym (h.same i v (slice_get-get_or vs i d lt)) ∙ ap (λ z. z *ℤ v.den) at ∙ times_assoc (pos (suc c)) m v.den))
 
-pub solved_is_whole : (n : ℕ) (f : Formula) (vs : List Ratio) (ns : List ℤ) (d : ℕ) → length vs ≡ n → All IsSmall vs → IsVectorOf vs ns d → Solves (all_int n) f ns d → All (IsWholeTimes 1) vs
-solved_is_whole n f vs ns zero e small h s = absurd (omega (arith, h.positive))
-solved_is_whole n f vs ns (suc c) e small h s = whole_entries vs n ns c e small h s.1
+counted_is_whole : (n : ℕ) (f : Formula) (vs : List Ratio) (ns : List ℤ) (d : ℕ) → length vs ≡ n → All IsSmall vs → IsVectorOf vs ns d → Solves (all_int n) f ns d → All (IsWholeTimes 1) vs
+counted_is_whole n f vs ns zero e small h s = absurd (omega (arith, h.positive))
+counted_is_whole n f vs ns (suc c) e small h s = whole_entries vs n ns c e small h s.1
+
+pub solved_is_whole : (sorts : List Sort) (f : Formula) (vs : List Ratio) (ns : List ℤ) (d : ℕ) → AreIntegers sorts → length vs ≡ length sorts → All IsSmall vs → IsVectorOf vs ns d → Solves sorts f ns d → All (IsWholeTimes 1) vs
+solved_is_whole sorts f vs ns d integers e small h = of_sorts (λ ss. Solves ss f ns d → All (IsWholeTimes 1) vs) sorts integers (counted_is_whole (length sorts) f vs ns d e small h)
 
 -- ---- the least common denominator of whole fractions is 1
 pub not_too_fine : (vs : List Ratio) → All (IsWholeTimes 1) vs → IsTooFine vs → ⊥

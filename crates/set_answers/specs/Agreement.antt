@@ -3,7 +3,7 @@ use Rattle.std.specs.Prelude.{ℕ, ◌<◌, ◌≡◌, ◌↔◌, List, length, 
 use Rattle.lash_model.specs.Formulas.{Sort, Formula}
 use Rattle.lash_model.specs.Meaning.{Solves}
 use Rattle.lash_model.specs.Tables.{Table}
-use Rattle.lash_model.specs.Standing.{StandsFor, all_int}
+use Rattle.lash_model.specs.Standing.{StandsFor}
 use Rattle.canonical_laws.specs.Canonical.{IsCanonical}
 
 -- the numerators and the denominator are a vector over the sorts
@@ -23,9 +23,9 @@ Includes sorts f g = (ns : List ℤ) (d : ℕ) → IsVector sorts ns d → Solve
 abbrev pub IsEmptySet : List Sort → Formula → Type 0
 IsEmptySet sorts f = (ns : List ℤ) (d : ℕ) → IsVector sorts ns d → Solves sorts f ns d → ⊥
 
--- the canonical table of a base, over n tracks, that stands for the set of n integers
-pub record IsCanonicalOf (base n : ℕ) (f : Formula) (t : Table) : Type 0 where
+-- the canonical table of a base, with a track for each sort, that stands for the set over these sorts
+pub record IsCanonicalOf (base : ℕ) (sorts : List Sort) (f : Formula) (t : Table) : Type 0 where
   pub canonical : IsCanonical t
   pub base_is : t.base ≡ base
-  pub tracks_are : t.tracks ≡ n
-  pub stands : StandsFor t (all_int n) f
+  pub tracks_are : t.tracks ≡ length sorts
+  pub stands : StandsFor t sorts f

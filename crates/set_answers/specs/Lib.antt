@@ -1,3 +1,4 @@
+pub mod Sorts
 pub mod Agreement
 pub mod Differences
 pub mod Vectors

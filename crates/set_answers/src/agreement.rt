@@ -1,10 +1,11 @@
 //! Whether two sets agree, and whether a statement without variables is true.
 
-ghost use Rattle.std.specs.Prelude.{◌≡◌, ◌↔◌, ℕ, IsTrue, []};
-ghost use Rattle.lash_model.specs.Formulas.{Formula};
+ghost use Rattle.std.specs.Prelude.{◌≡◌, ◌↔◌, List, [], length, IsTrue};
+ghost use Rattle.lash_model.specs.Formulas.{Sort, Formula};
 ghost use Rattle.lash_model.specs.Meaning.{Solves};
-ghost use Rattle.lash_model.specs.Standing.{StandsFor, all_int};
+ghost use Rattle.lash_model.specs.Standing.{StandsFor};
 ghost use Rattle.set_answers.specs.Agreement.{Agree};
+ghost use Rattle.set_answers.specs.Sorts.{AreIntegers};
 
 use weak_min::{Canon, same};
 
@@ -12,7 +13,7 @@ use weak_min::{Canon, same};
 /// vectors solve the sets that they stand for. Costs one look at each entry, and takes no memory.
 pub fn equal(left: &Canon, right: &Canon) -> bool
     ensures table { IsTrue result ↔ (left.now.table ≡ right.now.table) }
-    ensures agree { (n : ℕ) (f g : Formula) → left.now.table.base ≡ right.now.table.base → left.now.table.tracks ≡ n → right.now.table.tracks ≡ n → StandsFor left.now.table (all_int n) f → StandsFor right.now.table (all_int n) g → (IsTrue result ↔ Agree (all_int n) f g) }
+    ensures agree { (sorts : List Sort) (f g : Formula) → AreIntegers sorts → left.now.table.base ≡ right.now.table.base → left.now.table.tracks ≡ length sorts → right.now.table.tracks ≡ length sorts → StandsFor left.now.table sorts f → StandsFor right.now.table sorts g → (IsTrue result ↔ Agree sorts f g) }
 {
     // Both are canonical.
     let _left = left.table();

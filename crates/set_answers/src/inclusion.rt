@@ -1,16 +1,17 @@
 //! Whether one set is a part of another: the pairs of states that words lead to in both diagrams (the synchronous product) have none
 //! that accepts by the first alone. Costs a look-up for each pair and letter.
 
-ghost use Rattle.std.specs.Prelude.{◌≡◌, ◌↔◌, ◌≤◌, ◌<◌, ℕ, IsTrue, OnOk, IfOk, IfErr, slice_index};
+ghost use Rattle.std.specs.Prelude.{◌≡◌, ◌↔◌, ◌≤◌, ◌<◌, ℕ, List, length, IsTrue, OnOk, IfOk, IfErr, slice_index};
 ghost use Rattle.std.specs.List.{range_with_len};
 ghost use Rattle.graph_laws.specs.Exploring.{IsHeavy};
-ghost use Rattle.lash_model.specs.Formulas.{Formula};
-ghost use Rattle.lash_model.specs.Standing.{StandsFor, all_int};
+ghost use Rattle.lash_model.specs.Formulas.{Sort, Formula};
+ghost use Rattle.lash_model.specs.Standing.{StandsFor};
 ghost use Rattle.lash_model.specs.Tables.{ints};
 ghost use Rattle.canonical_laws.specs.Canonical.{IsCanonical};
 ghost use Rattle.product_ops.specs.Pairs.{pairs};
 ghost use Rattle.set_answers.specs.Agreement.{Includes};
 ghost use Rattle.set_answers.specs.Differences.{all_tracks, AreWithin};
+ghost use Rattle.set_answers.specs.Sorts.{AreIntegers};
 
 use lash_io::Memory;
 use packed_cells::{Packed, Plain};
@@ -30,7 +31,7 @@ pub fn subset(alloc: Global, left: &Canon, right: &Canon, limit: u64) -> Result<
     requires limit { limit ≤ 16777216 }
     ensures pairs { OnOk result (AreWithin left.now.table right.now.table limit) }
     ensures heavy { IfErr result (λ e. e ≡ BuildError.Heavy → IsHeavy (pairs left.now.table right.now.table (all_tracks left.now.table.tracks)) limit) }
-    ensures includes { IfOk result (λ yes. (n : ℕ) (f g : Formula) → left.now.table.tracks ≡ n → StandsFor left.now.table (all_int n) f → StandsFor right.now.table (all_int n) g → (IsTrue yes ↔ Includes (all_int n) f g)) }
+    ensures includes { IfOk result (λ yes. (sorts : List Sort) (f g : Formula) → AreIntegers sorts → left.now.table.tracks ≡ length sorts → StandsFor left.now.table sorts f → StandsFor right.now.table sorts g → (IsTrue yes ↔ Includes sorts f g)) }
 {
     subset_of(alloc, left.table(), right.table(), limit)
 }
@@ -49,7 +50,7 @@ fn subset_of(
     requires limit { limit ≤ 16777216 }
     ensures pairs { OnOk result (AreWithin left.now.table right.now.table limit) }
     ensures heavy { IfErr result (λ e. e ≡ BuildError.Heavy → IsHeavy (pairs left.now.table right.now.table (all_tracks left.now.table.tracks)) limit) }
-    ensures includes { IfOk result (λ yes. (n : ℕ) (f g : Formula) → left.now.table.tracks ≡ n → StandsFor left.now.table (all_int n) f → StandsFor right.now.table (all_int n) g → (IsTrue yes ↔ Includes (all_int n) f g)) }
+    ensures includes { IfOk result (λ yes. (sorts : List Sort) (f g : Formula) → AreIntegers sorts → left.now.table.tracks ≡ length sorts → StandsFor left.now.table sorts f → StandsFor right.now.table sorts g → (IsTrue yes ↔ Includes sorts f g)) }
 {
     let map = match shared_tracks(alloc, left.tracks()) {
         Ok(map) => map,

@@ -1,10 +1,11 @@
 //! Whether a vector of fractions is in a diagram's set. A vector of whole numbers is encoded, and its word is read.
 
 ghost use Rattle.std.specs.Prelude.{◌≡◌, ◌↔◌, ◌<◌, ◌≤◌, ℕ, ℤ, List, length, All, IsTrue, IfOk};
-ghost use Rattle.lash_model.specs.Formulas.{Formula};
+ghost use Rattle.lash_model.specs.Formulas.{Sort, Formula};
 ghost use Rattle.lash_model.specs.Meaning.{Solves};
-ghost use Rattle.lash_model.specs.Standing.{StandsFor, all_int};
+ghost use Rattle.lash_model.specs.Standing.{StandsFor};
 ghost use Rattle.fraction_codes.specs.Fractions.{IsSmall, IsWholeTimes};
+ghost use Rattle.set_answers.specs.Sorts.{AreIntegers};
 ghost use Rattle.set_answers.specs.Vectors.{IsVectorOf};
 
 use fraction_codes::{CodeError, Ratio, encode};
@@ -18,7 +19,7 @@ use weak_min::Canon;
 pub fn contains(alloc: Global, canon: &Canon, values: &[Ratio]) -> Result<bool, Memory>
     requires count { length values.now ≡ canon.now.table.tracks }
     requires small { All IsSmall values.now }
-    ensures { IfOk result (λ yes. (n : ℕ) (f : Formula) → length values.now ≡ n → StandsFor canon.now.table (all_int n) f → (ns : List ℤ) (d : ℕ) → IsVectorOf values.now ns d → (IsTrue yes ↔ Solves (all_int n) f ns d)) }
+    ensures { IfOk result (λ yes. (sorts : List Sort) (f : Formula) → AreIntegers sorts → length values.now ≡ length sorts → StandsFor canon.now.table sorts f → (ns : List ℤ) (d : ℕ) → IsVectorOf values.now ns d → (IsTrue yes ↔ Solves sorts f ns d)) }
 {
     if !are_whole(values) {
         return Ok(false);

@@ -1,3 +1,4 @@
+pub mod Integers
 pub mod Shelving
 pub mod Saying
 pub mod Conditions

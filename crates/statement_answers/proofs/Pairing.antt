@@ -1,10 +1,12 @@
 -- The pairs of a loop as a set that is kept.
 use Rattle.std.proofs.Common.{◌≡◌, ℕ, zero, suc, ◌+◌, ◌*◌, ◌≤◌, ◌<◌, ◌^◌, List, [], length, arith, refl, sym, ap, ◌∙◌, subst, None, Some, nat_lt}
 use Rattle.std.specs.Prelude.{Result, Ok, Err, true, false}
+use Rattle.std.proofs.Math.Nat.{pow-le-pow_left}
 use Rattle.std.proofs.lemmas.Bool.{ltb-false}
 use Rattle.lash_model.specs.Formulas.{Sort, Formula}
 use Rattle.formula_core.specs.Counts.{nodes_of, depth_of, binds_ints}
 use Rattle.formula_core.specs.FewLetters.{FitsLetters}
+use Rattle.formula_core.specs.Variables.{sorts_of}
 use Rattle.term_substitution.specs.Conditions.{IsOver, variables_limit}
 use Rattle.term_substitution.specs.Limits.{first_passed, nodes_limit, depth_limit}
 use Rattle.term_substitution.specs.declared.errors.FormError.TheVariants as form
@@ -18,8 +20,10 @@ use Rattle.loop_closure.specs.declared.errors.LoopError.TheVariants as unclosed
 use Rattle.script_names.specs.Kept.{KeptSet, IsKept}
 use Rattle.script_meaning.specs.declared.limits.Which.TheVariants as limit
 use Rattle.statement_meaning.specs.Asking.{Set, Loop}
-use Rattle.set_compile.specs.Conditions.{IsOver as Over}
-use Rattle.statement_answers.specs.Automata.{IsGiven}
+use Rattle.set_answers.specs.Sorts.{AreIntegers}
+use Rattle.set_compile.specs.Conditions.{IsOver as Over, BindsIntegers}
+use Rattle.statement_answers.specs.Automata.{IsGiven, IsOfIntegers}
+use Rattle.statement_answers.specs.declared.settings.Settings.{Settings}
 use Rattle.statement_answers.specs.Loops.{closed_at, pairs_of, HasPairs, IsClosurePassed, IsFitLoop, IsPairing, IsUnpaired, unclosed_of}
 use Rattle.statement_answers.specs.Pieces.{KeepsSilent}
 use Rattle.statement_answers.specs.declared.errors.Unanswered.{Unanswered}
@@ -31,8 +35,8 @@ pub closed_pairs : (l : Body) (f : Formula) (h : IsClosed false l f) → pairs_o
 closed_pairs l f h = ap (closed_at l) (least_is_found l.matrix h.power h.least)
 
 -- a closure that passes no limit, and whose letters are few
-pub pairing : (l : Body) (f : Formula) → IsClosed false l f → first_passed f ≡ None → IsOver (count_place l) f → binds_ints f ≡ true → FitsLetters 2 f (count_place l) → IsPairing l f
-pairing l f h within over bound letters =
+pub pairing : (base : ℕ) (l : Body) (f : Formula) → IsClosed false l f → first_passed f ≡ None → IsOver (count_place l) f → binds_ints f ≡ true → FitsLetters base f (count_place l) → IsPairing base l f
+pairing base l f h within over bound letters =
     let is : f ≡ pairs_of l = h.same ∙ sym (closed_pairs l f h) in
     record {
       has = record {
@@ -40,7 +44,7 @@ pairing l f h within over bound letters =
         least = h.least;
         same = closed_pairs l f h;
         within = subst (λ g. first_passed g ≡ None) is within;
-        letters = subst (λ g. FitsLetters 2 g (count_place l)) is letters;
+        letters = subst (λ g. FitsLetters base g (count_place l)) is letters;
       };
       same = is;
       over = over;
@@ -48,58 +52,62 @@ pairing l f h within over bound letters =
     }
 
 -- one whose letters are many
-pub lettered : (l : Body) (f : Formula) (h : IsClosed false l f) → first_passed f ≡ None → (FitsLetters 2 f (count_place l) → ⊥) → IsClosurePassed l limit.Letters
-lettered l f h within many = record {
+pub lettered : (base : ℕ) (l : Body) (f : Formula) (h : IsClosed false l f) → first_passed f ≡ None → (FitsLetters base f (count_place l) → ⊥) → IsClosurePassed base l limit.Letters
+lettered base l f h within many = record {
   power = h.power;
   least = h.least;
-  passes = (subst (λ g. first_passed g ≡ None) h.same within, λ fits. many (subst (λ g. FitsLetters 2 g (count_place l)) (sym h.same) fits));
+  passes = (subst (λ g. first_passed g ≡ None) h.same within, λ fits. many (subst (λ g. FitsLetters base g (count_place l)) (sym h.same) fits));
 }
 
 -- no closure
-pub unpaired : (l : Body) (e : LoopError) → IsUnclosed false l e → IsUnpaired l (unclosed_of e)
-unpaired l unclosed.NoPower h = h
-unpaired l unclosed.Nodes h = record { power = h.power; least = h.least; passes = h.first }
-unpaired l unclosed.Depth h = record { power = h.power; least = h.least; passes = h.first }
-unpaired l unclosed.Coefficient h = record { power = h.power; least = h.least; passes = h.first }
-unpaired l unclosed.Constant h = record { power = h.power; least = h.least; passes = h.first }
-unpaired l unclosed.Memory h = tt
+pub unpaired : (base : ℕ) (l : Body) (e : LoopError) → IsUnclosed false l e → IsUnpaired base l (unclosed_of e)
+unpaired base l unclosed.NoPower h = h
+unpaired base l unclosed.Nodes h = record { power = h.power; least = h.least; passes = h.first }
+unpaired base l unclosed.Depth h = record { power = h.power; least = h.least; passes = h.first }
+unpaired base l unclosed.Coefficient h = record { power = h.power; least = h.least; passes = h.first }
+unpaired base l unclosed.Constant h = record { power = h.power; least = h.least; passes = h.first }
+unpaired base l unclosed.Memory h = tt
 
 -- the pairs are a set of integers
-pub pairs_given : (kept : List KeptSet) (name : List ℕ) (vars : List (List ℕ × Sort)) (l : Body) (f : Formula) → IsFitLoop kept name vars l → IsPairing l f → IsGiven vars f
-pairs_given kept name vars l f fit h = record {
-  integers = fit.integers;
-  sorts = fit.sorts;
+pub pairs_given : (base : ℕ) (kept : List KeptSet) (name : List ℕ) (vars : List (List ℕ × Sort)) (l : Body) (f : Formula) → IsFitLoop kept name vars l → IsPairing base l f → IsGiven base vars f
+pairs_given base kept name vars l f fit h = record {
   over = subst (λ n. Over n f) (sym fit.count) (compiled_over (count_place l) f h.over);
-  bound = binds_integers f h.bound;
-  letters = subst (λ g. FitsLetters 2 g (length vars)) (sym h.same) (subst (λ n. FitsLetters 2 (pairs_of l) n) (sym fit.count) h.has.letters);
+  letters = subst (λ g. FitsLetters base g (length vars)) (sym h.same) (subst (λ n. FitsLetters base (pairs_of l) n) (sym fit.count) h.has.letters);
 }
 
+-- all their variables are integers
+pub pairs_of_integers : (base : ℕ) (vars : List (List ℕ × Sort)) (l : Body) (f : Formula) → AreIntegers (sorts_of vars) → IsPairing base l f → IsOfIntegers vars f
+pairs_of_integers base vars l f integers h = record { sorts = integers; bound = binds_integers f h.bound }
+
+pub pairs_bound : (base : ℕ) (l : Body) (f : Formula) → IsPairing base l f → BindsIntegers (pairs_of l)
+pairs_bound base l f h = subst BindsIntegers h.same (binds_integers f h.bound)
+
 -- few letters are of few variables
-pub few_places : (n : ℕ) → 2 ^ n ≤ 4096 → n ≤ variables_limit
-few_places n h = omega (arith, h, below_power n)
+pub few_places : (base n : ℕ) → 2 ≤ base → base ^ n ≤ 4096 → n ≤ variables_limit
+few_places base n low h = omega (arith, h, below_power n, pow-le-pow_left low n)
   where
     below_power : (n : ℕ) → n + 1 ≤ 2 ^ n
     below_power zero = omega arith
     below_power (suc n) = omega (arith, below_power n)
 
 -- they are inside the limits
-pub pairs_kept : (kept : List KeptSet) (name : List ℕ) (vars : List (List ℕ × Sort)) (l : Body) (f : Formula) → IsFitLoop kept name vars l → IsPairing l f → IsKept (record { name = name; vars = vars; formula = f })
-pairs_kept kept name vars l f fit h =
+pub pairs_kept : (base : ℕ) (kept : List KeptSet) (name : List ℕ) (vars : List (List ℕ × Sort)) (l : Body) (f : Formula) → 2 ≤ base → IsFitLoop kept name vars l → IsPairing base l f → IsKept (record { name = name; vars = vars; formula = f })
+pairs_kept base kept name vars l f low fit h =
     let within : first_passed f ≡ None = subst (λ g. first_passed g ≡ None) (sym h.same) h.has.within in
     let nodes = passed_over (nat_lt nodes_limit (nodes_of f)) form.Nodes _ within in
     let depth = passed_over (nat_lt depth_limit (depth_of f)) form.Depth _ nodes.rest in
     record {
-      few = few_places (length vars) (subst (λ n. 2 ^ n ≤ 4096) (sym fit.count) h.has.letters.0);
+      few = few_places base (length vars) low (subst (λ n. base ^ n ≤ 4096) (sym fit.count) h.has.letters.0);
       over = subst (λ n. IsOver n f) (sym fit.count) h.over;
       nodes = ltb-false nodes_limit (nodes_of f) nodes.test;
       depth = ltb-false depth_limit (depth_of f) depth.test;
     }
 
 -- keeping the set of the pairs is keeping the loop
-pub loop_silent : (kept : List KeptSet) (name : List ℕ) (vars : List (List ℕ × Sort)) (l : Body) (f : Formula) {U : Type 0} (r : Result U Unanswered) → IsPairing l f → KeepsSilent kept (Set name vars f) r → KeepsSilent kept (Loop name vars l) r
-loop_silent kept name vars l f {U = U} r h silent = by r (subst (λ g. KeepsSilent kept (Set name vars g) r) h.same silent)
+pub loop_silent : (settings : Settings) (kept : List KeptSet) (name : List ℕ) (vars : List (List ℕ × Sort)) (l : Body) (f : Formula) {U : Type 0} (r : Result U Unanswered) → IsPairing settings.base l f → KeepsSilent settings kept (Set name vars f) r → KeepsSilent settings kept (Loop name vars l) r
+loop_silent settings kept name vars l f {U = U} r h silent = by r (subst (λ g. KeepsSilent settings kept (Set name vars g) r) h.same silent)
   where
-    by : (r : Result U Unanswered) → KeepsSilent kept (Set name vars (pairs_of l)) r → KeepsSilent kept (Loop name vars l) r
+    by : (r : Result U Unanswered) → KeepsSilent settings kept (Set name vars (pairs_of l)) r → KeepsSilent settings kept (Loop name vars l) r
     by (Ok u) k = (h.has, k)
     by (Err Heavy) k = (h.has, k)
     by (Err NoPower) k = absurd k
@@ -109,10 +117,10 @@ loop_silent kept name vars l f {U = U} r h silent = by r (subst (λ g. KeepsSile
     by (Err Memory) k = k
 
 -- a loop without pairs is not kept
-pub unpaired_silent : (kept : List KeptSet) (name : List ℕ) (vars : List (List ℕ × Sort)) (l : Body) (U : Type 0) (e : Unanswered) → IsUnpaired l e → KeepsSilent kept (Loop name vars l) {U = U} (Err e)
-unpaired_silent kept name vars l U Heavy h = absurd h
-unpaired_silent kept name vars l U NoPower h = h
-unpaired_silent kept name vars l U (Closure which) h = h
-unpaired_silent kept name vars l U KeptCells h = absurd h
-unpaired_silent kept name vars l U Fault h = h
-unpaired_silent kept name vars l U Memory h = tt
+pub unpaired_silent : (settings : Settings) (kept : List KeptSet) (name : List ℕ) (vars : List (List ℕ × Sort)) (l : Body) (U : Type 0) (e : Unanswered) → IsUnpaired settings.base l e → KeepsSilent settings kept (Loop name vars l) {U = U} (Err e)
+unpaired_silent settings kept name vars l U Heavy h = absurd h
+unpaired_silent settings kept name vars l U NoPower h = h
+unpaired_silent settings kept name vars l U (Closure which) h = h
+unpaired_silent settings kept name vars l U KeptCells h = absurd h
+unpaired_silent settings kept name vars l U Fault h = h
+unpaired_silent settings kept name vars l U Memory h = tt

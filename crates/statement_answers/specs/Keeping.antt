@@ -8,6 +8,7 @@ use Rattle.statement_meaning.specs.Asking.{Asked, Show, Set, Print, Solve, Test,
 use Rattle.statement_answers.specs.Loops.{pairs_of}
 use Rattle.statement_answers.specs.declared.library.Held.{Held}
 use Rattle.statement_answers.specs.Automata.{IsGiven, IsAnswer, cells_of}
+use Rattle.statement_answers.specs.declared.settings.Settings.{Settings}
 
 -- the greatest number of cells of all kept sets together
 abbrev pub kept_cells_limit : ℕ
@@ -18,11 +19,11 @@ cells_of_all [] = 0
 cells_of_all (t ∷ ts) = cells_of t + cells_of_all ts
 
 -- each kept set has its automaton
-abbrev pub HaveAutomata : List KeptSet → List Table → Type 0
-HaveAutomata [] [] = Unit
-HaveAutomata [] (t ∷ ts) = ⊥
-HaveAutomata (k ∷ ks) [] = ⊥
-HaveAutomata (k ∷ ks) (t ∷ ts) = IsAnswer k.vars k.formula t × HaveAutomata ks ts
+abbrev pub HaveAutomata : Settings → List KeptSet → List Table → Type 0
+HaveAutomata settings [] [] = Unit
+HaveAutomata settings [] (t ∷ ts) = ⊥
+HaveAutomata settings (k ∷ ks) [] = ⊥
+HaveAutomata settings (k ∷ ks) (t ∷ ts) = IsAnswer settings k.vars k.formula t × HaveAutomata settings ks ts
 
 -- the kept set at a place
 abbrev pub OfKept : List KeptSet → ℕ → (KeptSet → Type 0) → Type 0
@@ -45,31 +46,33 @@ grown kept (Check f) = kept
 grown kept (Loop name vars body) = kept ++ record { name = name; vars = vars; formula = pairs_of body } ∷ []
 
 -- a kept set with what is held of it: its header and its automaton
-pub record IsHeld (k : KeptSet) (header : Header) (t : Table) : Type 0 where
-  pub given : IsGiven k.vars k.formula
-  pub answer : IsAnswer k.vars k.formula t
-  pub base : header.base ≡ 2
+pub record IsHeld (settings : Settings) (k : KeptSet) (header : Header) (t : Table) : Type 0 where
+  pub given : IsGiven settings.base k.vars k.formula
+  pub answer : IsAnswer settings k.vars k.formula t
+  pub base : header.base ≡ settings.base
   pub vars : header.vars ≡ k.vars
 
-abbrev pub AreHeld : List KeptSet → List (Header × Table) → Type 0
-AreHeld [] [] = Unit
-AreHeld [] (e ∷ es) = ⊥
-AreHeld (k ∷ ks) [] = ⊥
-AreHeld (k ∷ ks) (e ∷ es) = IsHeld k e.0 e.1 × AreHeld ks es
+abbrev pub AreHeld : Settings → List KeptSet → List (Header × Table) → Type 0
+AreHeld settings [] [] = Unit
+AreHeld settings [] (e ∷ es) = ⊥
+AreHeld settings (k ∷ ks) [] = ⊥
+AreHeld settings (k ∷ ks) (e ∷ es) = IsHeld settings k e.0 e.1 × AreHeld settings ks es
 
 abbrev pub cells_held : List (Header × Table) → ℕ
 cells_held [] = 0
 cells_held (e ∷ es) = cells_of e.1 + cells_held es
 
--- the kept sets, with what is held of each
+-- the settings, and the kept sets with what is held of each
 pub record Library : Type 0 where
+  pub settings : Settings
   pub definitions : List (List ℕ × Definition)
   pub held : List (Header × Table)
   pub cells : ℕ
 
--- it is held of the kept sets in their order, within the limit of cells
+-- it is held of the kept sets in their order, within the limit of cells; and the limit of one construction is one that they allow
 pub record IsLibrary (l : Library) : Type 0 where
-  pub each : AreHeld (sets_of l.definitions) l.held
+  pub few : l.settings.cells ≤ 16777216
+  pub each : AreHeld l.settings (sets_of l.definitions) l.held
   pub count : l.cells ≡ cells_held l.held
   pub within : l.cells ≤ kept_cells_limit
 

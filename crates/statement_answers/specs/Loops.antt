@@ -1,10 +1,8 @@
 -- The sets that loops keep: the pairs of vectors that some number of turns joins. Own.
-use Rattle.std.specs.Prelude.{ℕ, ◌≡◌, ◌<◌, List, length, All, true, false, Option, None, Some}
-use Rattle.lash_model.specs.Formulas.{Sort, Int, Formula}
-use Rattle.lash_model.specs.Standing.{all_int}
+use Rattle.std.specs.Prelude.{ℕ, ◌≡◌, ◌<◌, List, length, true, false, Option, None, Some}
+use Rattle.lash_model.specs.Formulas.{Sort, Formula}
 use Rattle.formula_core.specs.Counts.{binds_ints}
 use Rattle.formula_core.specs.FewLetters.{FitsLetters}
-use Rattle.formula_core.specs.Variables.{sorts_of}
 use Rattle.term_substitution.specs.Conditions.{IsOver}
 use Rattle.term_substitution.specs.Limits.{first_passed}
 use Rattle.term_substitution.specs.declared.errors.FormError.TheVariants as form
@@ -32,52 +30,50 @@ abbrev pub pairs_of : Body → Formula
 pairs_of l = closed_at l (power_of l.matrix)
 
 -- the matrix has a least power, and the closure passes no limit
-pub record HasPairs (l : Body) : Type 0 where
+pub record HasPairs (base : ℕ) (l : Body) : Type 0 where
   pub power : ℕ
   pub least : IsLeastPower l.matrix power
   pub same : pairs_of l ≡ closure_of false l power
   pub within : first_passed (pairs_of l) ≡ None
-  pub letters : FitsLetters 2 (pairs_of l) (count_place l)
+  pub letters : FitsLetters base (pairs_of l) (count_place l)
 
 -- the limit is the first that the formula passes, the letters behind the others
-abbrev pub ClosurePasses : Formula → ℕ → Which → Type 0
-ClosurePasses f places limit.StatementBytes = ⊥
-ClosurePasses f places limit.ScriptBytes = ⊥
-ClosurePasses f places limit.Nesting = ⊥
-ClosurePasses f places limit.Literal = ⊥
-ClosurePasses f places limit.LoopVariables = ⊥
-ClosurePasses f places limit.Sets = ⊥
-ClosurePasses f places limit.Nodes = first_passed f ≡ Some form.Nodes
-ClosurePasses f places limit.Depth = first_passed f ≡ Some form.Depth
-ClosurePasses f places limit.Coefficient = first_passed f ≡ Some form.Coefficient
-ClosurePasses f places limit.Constant = first_passed f ≡ Some form.Constant
-ClosurePasses f places limit.Letters = (first_passed f ≡ None) × (FitsLetters 2 f places → ⊥)
-ClosurePasses f places limit.Denominator = ⊥
-ClosurePasses f places limit.KeptCells = ⊥
+abbrev pub ClosurePasses : ℕ → Formula → ℕ → Which → Type 0
+ClosurePasses base f places limit.StatementBytes = ⊥
+ClosurePasses base f places limit.ScriptBytes = ⊥
+ClosurePasses base f places limit.Nesting = ⊥
+ClosurePasses base f places limit.Literal = ⊥
+ClosurePasses base f places limit.LoopVariables = ⊥
+ClosurePasses base f places limit.Sets = ⊥
+ClosurePasses base f places limit.Nodes = first_passed f ≡ Some form.Nodes
+ClosurePasses base f places limit.Depth = first_passed f ≡ Some form.Depth
+ClosurePasses base f places limit.Coefficient = first_passed f ≡ Some form.Coefficient
+ClosurePasses base f places limit.Constant = first_passed f ≡ Some form.Constant
+ClosurePasses base f places limit.Letters = (first_passed f ≡ None) × (FitsLetters base f places → ⊥)
+ClosurePasses base f places limit.Denominator = ⊥
+ClosurePasses base f places limit.KeptCells = ⊥
 
 -- the matrix has a least power, and the closure passes this limit first
-pub record IsClosurePassed (l : Body) (which : Which) : Type 0 where
+pub record IsClosurePassed (base : ℕ) (l : Body) (which : Which) : Type 0 where
   pub power : ℕ
   pub least : IsLeastPower l.matrix power
-  pub passes : ClosurePasses (closure_of false l power) (count_place l) which
+  pub passes : ClosurePasses base (closure_of false l power) (count_place l) which
 
--- a loop of integers to be kept: its body is inside the limits, it has twice as many variables, and its name is new
+-- a loop to be kept: its body is inside the limits, it has twice as many variables, and its name is new
 pub record IsFitLoop (kept : List KeptSet) (name : List ℕ) (vars : List (List ℕ × Sort)) (l : Body) : Type 0 where
   pub inside : IsBody l
   pub count : length vars ≡ count_place l
-  pub integers : All (λ v. v.1 ≡ Int) vars
-  pub sorts : sorts_of vars ≡ all_int (length vars)
   pub fresh : kept_place kept name ≡ None
   pub room : length kept < sets_limit
 
 -- why a loop has no pairs
-abbrev pub IsUnpaired : Body → Unanswered → Type 0
-IsUnpaired l NoPower = HasNoPower l.matrix
-IsUnpaired l (Closure which) = IsClosurePassed l which
-IsUnpaired l Heavy = ⊥
-IsUnpaired l KeptCells = ⊥
-IsUnpaired l Fault = ⊥
-IsUnpaired l Memory = Unit {0}
+abbrev pub IsUnpaired : ℕ → Body → Unanswered → Type 0
+IsUnpaired base l NoPower = HasNoPower l.matrix
+IsUnpaired base l (Closure which) = IsClosurePassed base l which
+IsUnpaired base l Heavy = ⊥
+IsUnpaired base l KeptCells = ⊥
+IsUnpaired base l Fault = ⊥
+IsUnpaired base l Memory = Unit {0}
 
 -- how a loop without closure is answered
 abbrev pub unclosed_of : LoopError → Unanswered
@@ -89,8 +85,8 @@ unclosed_of unclosed.Constant = Closure limit.Constant
 unclosed_of unclosed.Memory = Memory
 
 -- the formula is that of the loop's pairs: over the variables, inside the limits, and binding integers alone
-pub record IsPairing (l : Body) (f : Formula) : Type 0 where
-  pub has : HasPairs l
+pub record IsPairing (base : ℕ) (l : Body) (f : Formula) : Type 0 where
+  pub has : HasPairs base l
   pub same : f ≡ pairs_of l
   pub over : IsOver (count_place l) f
   pub bound : binds_ints f ≡ true

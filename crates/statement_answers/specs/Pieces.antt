@@ -14,30 +14,32 @@ use Rattle.product_ops.specs.Pairs.{pairs}
 use Rattle.set_answers.specs.Agreement.{Agree, Includes}
 use Rattle.set_answers.specs.Differences.{AreWithin, all_tracks}
 use Rattle.set_answers.specs.Solving.{IsSolved}
+use Rattle.set_answers.specs.Sorts.{AreIntegers}
 use Rattle.set_answers.specs.Vectors.{IsVectorOf}
 use Rattle.set_compile.specs.Steps.{IsRefused}
 use Rattle.set_compile.specs.declared.errors.CompileError.{CompileError}
 use Rattle.set_compile.specs.declared.errors.CompileError.TheVariants.{Heavy as TooHeavy, Memory as NoMemory}
 use Rattle.script_names.specs.Kept.{KeptSet, IsKept, kept_place, sets_limit}
 use Rattle.statement_meaning.specs.Asking.{Asked, Show, Set, Print, Solve, Test, Equal, Subset, Check, Loop}
-use Rattle.statement_answers.specs.Automata.{cells_limit, cells_of, IsGiven, IsAnswer}
+use Rattle.statement_answers.specs.Automata.{cells_of, IsGiven, IsAnswer, IsOfIntegers}
 use Rattle.statement_answers.specs.Keeping.{kept_cells_limit, cells_of_all, HaveAutomata, OfKept, OfTwo}
 use Rattle.matrix_powers.specs.Powers.{HasNoPower}
 use Rattle.script_meaning.specs.declared.limits.Which.{Which}
 use Rattle.statement_answers.specs.Loops.{pairs_of, HasPairs, IsClosurePassed, IsFitLoop}
+use Rattle.statement_answers.specs.declared.settings.Settings.{Settings}
 use Rattle.statement_answers.specs.declared.errors.Unanswered.{Unanswered}
 use Rattle.statement_answers.specs.declared.errors.Unanswered.TheVariants.{Heavy, NoPower, Closure, KeptCells, Fault, Memory}
 
 -- the text of the set's automaton
-pub record IsShownAs (vars : List (List ℕ × Sort)) (f : Formula) (piece : List ℕ) : Type 0 where
+pub record IsShownAs (settings : Settings) (vars : List (List ℕ × Sort)) (f : Formula) (piece : List ℕ) : Type 0 where
   pub table : Table
-  pub answer : IsAnswer vars f table
+  pub answer : IsAnswer settings vars f table
   pub text : piece ≡ text_of vars table
 
 -- `empty`, or the solution that its automaton fixes
-pub record IsSolvedAs (vars : List (List ℕ × Sort)) (f : Formula) (piece : List ℕ) : Type 0 where
+pub record IsSolvedAs (settings : Settings) (vars : List (List ℕ × Sort)) (f : Formula) (piece : List ℕ) : Type 0 where
   pub table : Table
-  pub answer : IsAnswer vars f table
+  pub answer : IsAnswer settings vars f table
   pub solved : IsSolved vars table piece
 
 -- one line where the claim holds, and another where it does not
@@ -52,56 +54,56 @@ abbrev pub IsTested : KeptSet → List Ratio → List ℕ → Type 0
 IsTested k values piece = (ns : List ℤ) (d : ℕ) → IsVectorOf values ns d → IsDecided (codes "in\n") (codes "out\n") (Solves (sorts_of k.vars) k.formula ns d) piece
 
 -- the pairs of the two sets' automata are within the limit of cells
-abbrev pub ArePaired : KeptSet → KeptSet → Type 0
-ArePaired k l = (t : Table) × ((u : Table) × ((IsAnswer k.vars k.formula t × IsAnswer l.vars l.formula u) × AreWithin t u cells_limit))
+abbrev pub ArePaired : Settings → KeptSet → KeptSet → Type 0
+ArePaired settings k l = (t : Table) × ((u : Table) × ((IsAnswer settings k.vars k.formula t × IsAnswer settings l.vars l.formula u) × AreWithin t u settings.cells))
 
 -- or they are not
-abbrev pub AreHeavyPairs : KeptSet → KeptSet → Type 0
-AreHeavyPairs k l = (t : Table) × ((u : Table) × ((IsAnswer k.vars k.formula t × IsAnswer l.vars l.formula u) × IsHeavy (pairs t u (all_tracks t.tracks)) cells_limit))
+abbrev pub AreHeavyPairs : Settings → KeptSet → KeptSet → Type 0
+AreHeavyPairs settings k l = (t : Table) × ((u : Table) × ((IsAnswer settings k.vars k.formula t × IsAnswer settings l.vars l.formula u) × IsHeavy (pairs t u (all_tracks t.tracks)) settings.cells))
 
 -- the automata of the kept sets, and that of one more
-pub record IsKeptWith (kept : List KeptSet) (vars : List (List ℕ × Sort)) (f : Formula) (P : ℕ → Type 0) : Type 0 where
+pub record IsKeptWith (settings : Settings) (kept : List KeptSet) (vars : List (List ℕ × Sort)) (f : Formula) (P : ℕ → Type 0) : Type 0 where
   pub automata : List Table
-  pub have : HaveAutomata kept automata
+  pub have : HaveAutomata settings kept automata
   pub table : Table
-  pub answer : IsAnswer vars f table
+  pub answer : IsAnswer settings vars f table
   pub cells : P (cells_of_all automata + cells_of table)
 
 -- what is written for a statement, where these sets are kept
-abbrev pub IsPieceOf : List KeptSet → Asked → List ℕ → Type 0
-IsPieceOf kept (Show vars f) piece = IsShownAs vars f piece
-IsPieceOf kept (Set name vars f) piece = (piece ≡ []) × IsKeptWith kept vars f (λ n. n ≤ kept_cells_limit)
-IsPieceOf kept (Print at) piece = OfKept kept at (λ k. IsShownAs k.vars k.formula piece)
-IsPieceOf kept (Solve at) piece = OfKept kept at (λ k. IsSolvedAs k.vars k.formula piece)
-IsPieceOf kept (Test at values) piece = OfKept kept at (λ k. IsTested k values piece)
-IsPieceOf kept (Equal i j) piece = OfTwo kept i j (λ k l. yes_or_no (Agree (sorts_of k.vars) k.formula l.formula) piece)
-IsPieceOf kept (Subset i j) piece = OfTwo kept i j (λ k l. ArePaired k l × yes_or_no (Includes (sorts_of k.vars) k.formula l.formula) piece)
-IsPieceOf kept (Loop name vars body) piece = HasPairs body × ((piece ≡ []) × IsKeptWith kept vars (pairs_of body) (λ n. n ≤ kept_cells_limit))
-IsPieceOf kept (Check f) piece = ((t : Table) × IsAnswer [] f t) × IsDecided (codes "true\n") (codes "false\n") (Solves [] f [] 1) piece
+abbrev pub IsPieceOf : Settings → List KeptSet → Asked → List ℕ → Type 0
+IsPieceOf settings kept (Show vars f) piece = IsShownAs settings vars f piece
+IsPieceOf settings kept (Set name vars f) piece = (piece ≡ []) × IsKeptWith settings kept vars f (λ n. n ≤ kept_cells_limit)
+IsPieceOf settings kept (Print at) piece = OfKept kept at (λ k. IsShownAs settings k.vars k.formula piece)
+IsPieceOf settings kept (Solve at) piece = OfKept kept at (λ k. IsSolvedAs settings k.vars k.formula piece)
+IsPieceOf settings kept (Test at values) piece = OfKept kept at (λ k. IsTested k values piece)
+IsPieceOf settings kept (Equal i j) piece = OfTwo kept i j (λ k l. yes_or_no (Agree (sorts_of k.vars) k.formula l.formula) piece)
+IsPieceOf settings kept (Subset i j) piece = OfTwo kept i j (λ k l. ArePaired settings k l × yes_or_no (Includes (sorts_of k.vars) k.formula l.formula) piece)
+IsPieceOf settings kept (Loop name vars body) piece = HasPairs settings.base body × ((piece ≡ []) × IsKeptWith settings kept vars (pairs_of body) (λ n. n ≤ kept_cells_limit))
+IsPieceOf settings kept (Check f) piece = ((t : Table) × IsAnswer settings [] f t) × IsDecided (codes "true\n") (codes "false\n") (Solves [] f [] 1) piece
 
 -- a construction has too many cells
-abbrev pub IsHeavyAsked : List KeptSet → Asked → Type 0
-IsHeavyAsked kept (Show vars f) = IsRefused 2 (length vars) cells_limit f
-IsHeavyAsked kept (Set name vars f) = IsRefused 2 (length vars) cells_limit f
-IsHeavyAsked kept (Print at) = ⊥
-IsHeavyAsked kept (Solve at) = ⊥
-IsHeavyAsked kept (Test at values) = ⊥
-IsHeavyAsked kept (Equal i j) = ⊥
-IsHeavyAsked kept (Subset i j) = OfTwo kept i j AreHeavyPairs
-IsHeavyAsked kept (Check f) = IsRefused 2 0 cells_limit f
-IsHeavyAsked kept (Loop name vars body) = HasPairs body × IsRefused 2 (length vars) cells_limit (pairs_of body)
+abbrev pub IsHeavyAsked : Settings → List KeptSet → Asked → Type 0
+IsHeavyAsked settings kept (Show vars f) = IsRefused settings.base (length vars) settings.cells f
+IsHeavyAsked settings kept (Set name vars f) = IsRefused settings.base (length vars) settings.cells f
+IsHeavyAsked settings kept (Print at) = ⊥
+IsHeavyAsked settings kept (Solve at) = ⊥
+IsHeavyAsked settings kept (Test at values) = ⊥
+IsHeavyAsked settings kept (Equal i j) = ⊥
+IsHeavyAsked settings kept (Subset i j) = OfTwo kept i j (AreHeavyPairs settings)
+IsHeavyAsked settings kept (Check f) = IsRefused settings.base 0 settings.cells f
+IsHeavyAsked settings kept (Loop name vars body) = HasPairs settings.base body × IsRefused settings.base (length vars) settings.cells (pairs_of body)
 
 -- the kept sets would have too many cells with this one
-abbrev pub IsTooMuch : List KeptSet → Asked → Type 0
-IsTooMuch kept (Show vars f) = ⊥
-IsTooMuch kept (Set name vars f) = IsKeptWith kept vars f (λ n. kept_cells_limit < n)
-IsTooMuch kept (Print at) = ⊥
-IsTooMuch kept (Solve at) = ⊥
-IsTooMuch kept (Test at values) = ⊥
-IsTooMuch kept (Equal i j) = ⊥
-IsTooMuch kept (Subset i j) = ⊥
-IsTooMuch kept (Check f) = ⊥
-IsTooMuch kept (Loop name vars body) = HasPairs body × IsKeptWith kept vars (pairs_of body) (λ n. kept_cells_limit < n)
+abbrev pub IsTooMuch : Settings → List KeptSet → Asked → Type 0
+IsTooMuch settings kept (Show vars f) = ⊥
+IsTooMuch settings kept (Set name vars f) = IsKeptWith settings kept vars f (λ n. kept_cells_limit < n)
+IsTooMuch settings kept (Print at) = ⊥
+IsTooMuch settings kept (Solve at) = ⊥
+IsTooMuch settings kept (Test at values) = ⊥
+IsTooMuch settings kept (Equal i j) = ⊥
+IsTooMuch settings kept (Subset i j) = ⊥
+IsTooMuch settings kept (Check f) = ⊥
+IsTooMuch settings kept (Loop name vars body) = HasPairs settings.base body × IsKeptWith settings kept vars (pairs_of body) (λ n. kept_cells_limit < n)
 
 -- no power of the loop's matrix comes again
 abbrev pub IsPowerless : List KeptSet → Asked → Type 0
@@ -116,26 +118,26 @@ IsPowerless kept (Check f) = ⊥
 IsPowerless kept (Loop name vars body) = HasNoPower body.matrix
 
 -- the closure of the loop passes this limit first
-abbrev pub IsPassedByClosure : Which → List KeptSet → Asked → Type 0
-IsPassedByClosure which kept (Show vars f) = ⊥
-IsPassedByClosure which kept (Set name vars f) = ⊥
-IsPassedByClosure which kept (Print at) = ⊥
-IsPassedByClosure which kept (Solve at) = ⊥
-IsPassedByClosure which kept (Test at values) = ⊥
-IsPassedByClosure which kept (Equal i j) = ⊥
-IsPassedByClosure which kept (Subset i j) = ⊥
-IsPassedByClosure which kept (Check f) = ⊥
-IsPassedByClosure which kept (Loop name vars body) = IsClosurePassed body which
+abbrev pub IsPassedByClosure : Settings → Which → List KeptSet → Asked → Type 0
+IsPassedByClosure settings which kept (Show vars f) = ⊥
+IsPassedByClosure settings which kept (Set name vars f) = ⊥
+IsPassedByClosure settings which kept (Print at) = ⊥
+IsPassedByClosure settings which kept (Solve at) = ⊥
+IsPassedByClosure settings which kept (Test at values) = ⊥
+IsPassedByClosure settings which kept (Equal i j) = ⊥
+IsPassedByClosure settings which kept (Subset i j) = ⊥
+IsPassedByClosure settings which kept (Check f) = ⊥
+IsPassedByClosure settings which kept (Loop name vars body) = IsClosurePassed settings.base body which
 
 -- what answering a statement left of a sink
-abbrev pub Answered : List KeptSet → Asked → Option (List ℕ) → Option (List ℕ) → ℕ → ℕ → {U : Type 0} → Result U Unanswered → Type 0
-Answered kept asked before after faults_before faults_after (Ok u) = (piece : List ℕ) × (IsPieceOf kept asked piece × Holds before after piece)
-Answered kept asked before after faults_before faults_after (Err Heavy) = IsHeavyAsked kept asked × Holds before after []
-Answered kept asked before after faults_before faults_after (Err NoPower) = IsPowerless kept asked × Holds before after []
-Answered kept asked before after faults_before faults_after (Err (Closure which)) = IsPassedByClosure which kept asked × Holds before after []
-Answered kept asked before after faults_before faults_after (Err KeptCells) = IsTooMuch kept asked × Holds before after []
-Answered kept asked before after faults_before faults_after (Err Fault) = IsFaultCounted faults_before faults_after × ((piece : List ℕ) × (IsPieceOf kept asked piece × HoldsPart before after piece))
-Answered kept asked before after faults_before faults_after (Err Memory) = Holds before after []
+abbrev pub Answered : Settings → List KeptSet → Asked → Option (List ℕ) → Option (List ℕ) → ℕ → ℕ → {U : Type 0} → Result U Unanswered → Type 0
+Answered settings kept asked before after faults_before faults_after (Ok u) = (piece : List ℕ) × (IsPieceOf settings kept asked piece × Holds before after piece)
+Answered settings kept asked before after faults_before faults_after (Err Heavy) = IsHeavyAsked settings kept asked × Holds before after []
+Answered settings kept asked before after faults_before faults_after (Err NoPower) = IsPowerless kept asked × Holds before after []
+Answered settings kept asked before after faults_before faults_after (Err (Closure which)) = IsPassedByClosure settings which kept asked × Holds before after []
+Answered settings kept asked before after faults_before faults_after (Err KeptCells) = IsTooMuch settings kept asked × Holds before after []
+Answered settings kept asked before after faults_before faults_after (Err Fault) = IsFaultCounted faults_before faults_after × ((piece : List ℕ) × (IsPieceOf settings kept asked piece × HoldsPart before after piece))
+Answered settings kept asked before after faults_before faults_after (Err Memory) = Holds before after []
 
 -- one value for each variable, with a common denominator of at most 65,536
 pub record FitsVariables (k : KeptSet) (values : List Ratio) : Type 0 where
@@ -143,17 +145,29 @@ pub record FitsVariables (k : KeptSet) (values : List Ratio) : Type 0 where
   pub small : All IsSmall values
   pub coarse : (d : ℕ) × (IsCommonDenominator values d × (d ≤ 65536))
 
--- a statement whose names are right and that passes no limit, over integers
-abbrev pub IsFit : List KeptSet → Asked → Type 0
-IsFit kept (Show vars f) = IsGiven vars f
-IsFit kept (Set name vars f) = (IsGiven vars f × IsKept (record { name = name; vars = vars; formula = f })) × ((kept_place kept name ≡ None) × (length kept < sets_limit))
-IsFit kept (Print at) = at < length kept
-IsFit kept (Solve at) = at < length kept
-IsFit kept (Test at values) = OfKept kept at (λ k. FitsVariables k values)
-IsFit kept (Equal i j) = OfTwo kept i j (λ k l. length k.vars ≡ length l.vars)
-IsFit kept (Subset i j) = OfTwo kept i j (λ k l. length k.vars ≡ length l.vars)
-IsFit kept (Check f) = IsGiven [] f
-IsFit kept (Loop name vars body) = IsFitLoop kept name vars body
+-- a statement whose names are right and that passes no limit
+abbrev pub IsFit : Settings → List KeptSet → Asked → Type 0
+IsFit settings kept (Show vars f) = IsGiven settings.base vars f
+IsFit settings kept (Set name vars f) = (IsGiven settings.base vars f × IsKept (record { name = name; vars = vars; formula = f })) × ((kept_place kept name ≡ None) × (length kept < sets_limit))
+IsFit settings kept (Print at) = at < length kept
+IsFit settings kept (Solve at) = at < length kept
+IsFit settings kept (Test at values) = OfKept kept at (λ k. FitsVariables k values)
+IsFit settings kept (Equal i j) = OfTwo kept i j (λ k l. length k.vars ≡ length l.vars)
+IsFit settings kept (Subset i j) = OfTwo kept i j (λ k l. length k.vars ≡ length l.vars)
+IsFit settings kept (Check f) = IsGiven settings.base [] f
+IsFit settings kept (Loop name vars body) = IsFitLoop kept name vars body
+
+-- all variables of a statement are integers, declared and bound; those that a loop binds are in any case
+abbrev pub AsksIntegers : Asked → Type 0
+AsksIntegers (Show vars f) = IsOfIntegers vars f
+AsksIntegers (Set name vars f) = IsOfIntegers vars f
+AsksIntegers (Print at) = Unit {0}
+AsksIntegers (Solve at) = Unit {0}
+AsksIntegers (Test at values) = Unit {0}
+AsksIntegers (Equal i j) = Unit {0}
+AsksIntegers (Subset i j) = Unit {0}
+AsksIntegers (Check f) = IsOfIntegers [] f
+AsksIntegers (Loop name vars body) = AreIntegers (sorts_of vars)
 
 -- the line was put, or a part of it and a fault was counted
 abbrev pub IsSaid : List ℕ → Option (List ℕ) → Option (List ℕ) → ℕ → ℕ → {U : Type 0} → Result U Unanswered → Type 0
@@ -166,14 +180,14 @@ IsSaid line before after faults_before faults_after (Err Fault) = IsFaultCounted
 IsSaid line before after faults_before faults_after (Err Memory) = ⊥
 
 -- the same of a statement that writes nothing
-abbrev pub KeepsSilent : List KeptSet → Asked → {U : Type 0} → Result U Unanswered → Type 0
-KeepsSilent kept asked (Ok u) = IsPieceOf kept asked []
-KeepsSilent kept asked (Err Heavy) = IsHeavyAsked kept asked
-KeepsSilent kept asked (Err NoPower) = IsPowerless kept asked
-KeepsSilent kept asked (Err (Closure which)) = IsPassedByClosure which kept asked
-KeepsSilent kept asked (Err KeptCells) = IsTooMuch kept asked
-KeepsSilent kept asked (Err Fault) = ⊥
-KeepsSilent kept asked (Err Memory) = Unit
+abbrev pub KeepsSilent : Settings → List KeptSet → Asked → {U : Type 0} → Result U Unanswered → Type 0
+KeepsSilent settings kept asked (Ok u) = IsPieceOf settings kept asked []
+KeepsSilent settings kept asked (Err Heavy) = IsHeavyAsked settings kept asked
+KeepsSilent settings kept asked (Err NoPower) = IsPowerless kept asked
+KeepsSilent settings kept asked (Err (Closure which)) = IsPassedByClosure settings which kept asked
+KeepsSilent settings kept asked (Err KeptCells) = IsTooMuch settings kept asked
+KeepsSilent settings kept asked (Err Fault) = ⊥
+KeepsSilent settings kept asked (Err Memory) = Unit
 
 -- why the automaton of a set is not there
 abbrev pub unbuilt_of : CompileError → Unanswered
@@ -182,25 +196,25 @@ unbuilt_of NoMemory = Memory
 
 -- what a statement asks can be answered: its steps are within the limit of cells, its set fits beside the kept ones, its loop has a power and a
 -- closure within the limits
-abbrev pub IsAnswerable : List KeptSet → Asked → Type 0
-IsAnswerable kept (Show vars f) = (t : Table) × IsAnswer vars f t
-IsAnswerable kept (Set name vars f) = IsKeptWith kept vars f (λ n. n ≤ kept_cells_limit)
-IsAnswerable kept (Print at) = Unit {0}
-IsAnswerable kept (Solve at) = Unit {0}
-IsAnswerable kept (Test at values) = Unit {0}
-IsAnswerable kept (Equal i j) = Unit {0}
-IsAnswerable kept (Subset i j) = OfTwo kept i j ArePaired
-IsAnswerable kept (Check f) = (t : Table) × IsAnswer [] f t
-IsAnswerable kept (Loop name vars body) = HasPairs body × IsKeptWith kept vars (pairs_of body) (λ n. n ≤ kept_cells_limit)
+abbrev pub IsAnswerable : Settings → List KeptSet → Asked → Type 0
+IsAnswerable settings kept (Show vars f) = (t : Table) × IsAnswer settings vars f t
+IsAnswerable settings kept (Set name vars f) = IsKeptWith settings kept vars f (λ n. n ≤ kept_cells_limit)
+IsAnswerable settings kept (Print at) = Unit {0}
+IsAnswerable settings kept (Solve at) = Unit {0}
+IsAnswerable settings kept (Test at values) = Unit {0}
+IsAnswerable settings kept (Equal i j) = Unit {0}
+IsAnswerable settings kept (Subset i j) = OfTwo kept i j (ArePaired settings)
+IsAnswerable settings kept (Check f) = (t : Table) × IsAnswer settings [] f t
+IsAnswerable settings kept (Loop name vars body) = HasPairs settings.base body × IsKeptWith settings kept vars (pairs_of body) (λ n. n ≤ kept_cells_limit)
 
 -- why it is not answered, where that rests on what is asked
-abbrev pub IsUnanswered : List KeptSet → Asked → Unanswered → Type 0
-IsUnanswered kept asked Heavy = IsHeavyAsked kept asked
-IsUnanswered kept asked NoPower = IsPowerless kept asked
-IsUnanswered kept asked (Closure which) = IsPassedByClosure which kept asked
-IsUnanswered kept asked KeptCells = IsTooMuch kept asked
-IsUnanswered kept asked Fault = ⊥
-IsUnanswered kept asked Memory = ⊥
+abbrev pub IsUnanswered : Settings → List KeptSet → Asked → Unanswered → Type 0
+IsUnanswered settings kept asked Heavy = IsHeavyAsked settings kept asked
+IsUnanswered settings kept asked NoPower = IsPowerless kept asked
+IsUnanswered settings kept asked (Closure which) = IsPassedByClosure settings which kept asked
+IsUnanswered settings kept asked KeptCells = IsTooMuch settings kept asked
+IsUnanswered settings kept asked Fault = ⊥
+IsUnanswered settings kept asked Memory = ⊥
 
 -- `print` and `equal` work on what is held, and take no memory
 abbrev pub takes_memory : Asked → Bool

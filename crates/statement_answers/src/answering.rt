@@ -4,14 +4,15 @@ ghost use Rattle.std.specs.Prelude.{◌≡◌, ◌≤◌, ◌<◌, [], if◌then
 ghost use Rattle.formula_core.specs.Shape.{formula_of};
 ghost use Rattle.script_names.specs.Kept.{IsKept, kept_place, sets_limit};
 ghost use Rattle.statement_meaning.specs.Asking.{Show, Set, Print, Solve, Test, Equal, Subset, Check, asked_of};
-ghost use Rattle.statement_answers.specs.Automata.{IsGiven};
+ghost use Rattle.statement_answers.specs.Automata.{AreOfIntegers, IsGiven, IsOfIntegers};
 ghost use Rattle.statement_answers.specs.Keeping.{OfKept, OfTwo, grown, sets_kept};
-ghost use Rattle.statement_answers.specs.Pieces.{Answered, FitsVariables, IsFit, IsSaid, KeepsSilent, takes_memory, unbuilt_of};
+ghost use Rattle.statement_answers.specs.Pieces.{Answered, AsksIntegers, FitsVariables, IsFit, IsSaid, KeepsSilent, takes_memory, unbuilt_of};
 
-use crate::building::{CELLS_LIMIT, automaton, binary};
+use crate::building::automaton;
 use crate::errors::Unanswered;
 use crate::library::{Held, Library};
 use crate::looping::keep_loop;
+use crate::settings::Settings;
 use canon_text::{Header, write_text};
 use formula_core::{Formula, Vars};
 use fraction_codes::Ratio;
@@ -57,26 +58,30 @@ fn decide<K: Sink>(claim: bool, yes: &[u8], no: &[u8], out: &mut K) -> Result<()
 // Writes the text of a set's automaton.
 fn show<K: Sink>(
     alloc: Global,
+    settings: Settings,
     vars: Vars,
     formula: &Formula,
     out: &mut K,
 ) -> Result<(), Unanswered>
-    requires { IsGiven vars (formula_of formula.now) }
-    ensures answered { Answered [] (Show vars (formula_of formula.now)) (K.held out.old) (K.held out.new) (K.faults out.old) (K.faults out.new) result }
+    requires limit { settings.cells ≤ 16777216 }
+    requires given { IsGiven settings.base vars (formula_of formula.now) }
+    requires integers { IsOfIntegers vars (formula_of formula.now) }
+    ensures answered { Answered settings [] (Show vars (formula_of formula.now)) (K.held out.old) (K.held out.new) (K.faults out.old) (K.faults out.new) result }
     ensures count { K.faults out.old ≤ K.faults out.new }
 {
-    let canon = match automaton(alloc, &vars, formula) {
+    let Settings { base, cells } = settings;
+    let canon = match automaton(alloc, Settings { base, cells }, &vars, formula) {
         Ok(canon) => canon,
         Err(error) => return Err(unbuilt(error)),
     };
-    let header = Header::new(binary(), vars);
+    let header = Header::new(base, vars);
     match write_text(&canon, &header, out) {
         Ok(()) => Ok(()),
         Err(_) => Err(Unanswered::Fault),
     }
 }
 
-/// Keeps a set.
+/// Keeps a set of integers.
 pub(crate) fn keep(
     alloc: Global,
     library: &mut Library,
@@ -84,20 +89,23 @@ pub(crate) fn keep(
     vars: Vars,
     formula: Formula,
 ) -> Result<(), Unanswered>
-    requires given { IsGiven vars (formula_of formula) }
+    requires given { IsGiven library.old.settings.base vars (formula_of formula) }
+    requires integers { IsOfIntegers vars (formula_of formula) }
     requires inside { IsKept (record { name = name; vars = vars; formula = formula_of formula }) }
     requires fresh { kept_place (sets_kept library.old) name ≡ None }
     requires room { length (sets_kept library.old) < sets_limit }
     ensures kept { OnOk result (sets_kept library.new ≡ grown (sets_kept library.old) (Set name vars (formula_of formula))) }
     ensures stays { OnErr result (sets_kept library.new ≡ sets_kept library.old) }
-    ensures answered { KeepsSilent (sets_kept library.old) (Set name vars (formula_of formula)) result }
+    ensures settings { library.new.settings ≡ library.old.settings }
+    ensures answered { KeepsSilent library.old.settings (sets_kept library.old) (Set name vars (formula_of formula)) result }
 {
-    let canon = match automaton(alloc, &vars, &formula) {
+    let Settings { base, cells } = library.settings();
+    let canon = match automaton(alloc, Settings { base, cells }, &vars, &formula) {
         Ok(canon) => canon,
         Err(error) => return Err(unbuilt(error)),
     };
     let header = match vars.copy(alloc) {
-        Ok(copy) => Header::new(binary(), copy),
+        Ok(copy) => Header::new(base, copy),
         Err(_) => return Err(Unanswered::Memory),
     };
     library.put(name, vars, formula, Held { header, canon })
@@ -105,8 +113,9 @@ pub(crate) fn keep(
 
 // Writes the text of a kept set's automaton.
 fn print<K: Sink>(library: &Library, at: u32, out: &mut K) -> Result<(), Unanswered>
-    requires { at < length (sets_kept library.now) }
-    ensures answered { Answered (sets_kept library.now) (Print at) (K.held out.old) (K.held out.new) (K.faults out.old) (K.faults out.new) result }
+    requires place { at < length (sets_kept library.now) }
+    requires integers { AreOfIntegers (sets_kept library.now) }
+    ensures answered { Answered library.now.settings (sets_kept library.now) (Print at) (K.held out.old) (K.held out.new) (K.faults out.old) (K.faults out.new) result }
     ensures only { IfErr result (λ e. e ≡ Unanswered.Fault) }
     ensures count { K.faults out.old ≤ K.faults out.new }
 {
@@ -120,7 +129,7 @@ fn print<K: Sink>(library: &Library, at: u32, out: &mut K) -> Result<(), Unanswe
 // Writes a solution of a kept set, or that there is none.
 fn solve<K: Sink>(alloc: Global, library: &Library, at: u32, out: &mut K) -> Result<(), Unanswered>
     requires { at < length (sets_kept library.now) }
-    ensures answered { Answered (sets_kept library.now) (Solve at) (K.held out.old) (K.held out.new) (K.faults out.old) (K.faults out.new) result }
+    ensures answered { Answered library.now.settings (sets_kept library.now) (Solve at) (K.held out.old) (K.held out.new) (K.faults out.old) (K.faults out.new) result }
     ensures count { K.faults out.old ≤ K.faults out.new }
 {
     let held = library.held(at);
@@ -139,8 +148,9 @@ fn test<K: Sink>(
     values: &[Ratio],
     out: &mut K,
 ) -> Result<(), Unanswered>
-    requires { OfKept (sets_kept library.now) at (λ k. FitsVariables k values.now) }
-    ensures answered { Answered (sets_kept library.now) (Test at values.now) (K.held out.old) (K.held out.new) (K.faults out.old) (K.faults out.new) result }
+    requires values { OfKept (sets_kept library.now) at (λ k. FitsVariables k values.now) }
+    requires integers { AreOfIntegers (sets_kept library.now) }
+    ensures answered { Answered library.now.settings (sets_kept library.now) (Test at values.now) (K.held out.old) (K.held out.new) (K.faults out.old) (K.faults out.new) result }
     ensures count { K.faults out.old ≤ K.faults out.new }
 {
     let held = library.held(at);
@@ -152,8 +162,9 @@ fn test<K: Sink>(
 
 // Writes whether two kept sets have the same solutions.
 fn compare<K: Sink>(library: &Library, left: u32, right: u32, out: &mut K) -> Result<(), Unanswered>
-    requires { OfTwo (sets_kept library.now) left right (λ k l. length k.vars ≡ length l.vars) }
-    ensures answered { Answered (sets_kept library.now) (Equal left right) (K.held out.old) (K.held out.new) (K.faults out.old) (K.faults out.new) result }
+    requires sets { OfTwo (sets_kept library.now) left right (λ k l. length k.vars ≡ length l.vars) }
+    requires integers { AreOfIntegers (sets_kept library.now) }
+    ensures answered { Answered library.now.settings (sets_kept library.now) (Equal left right) (K.held out.old) (K.held out.new) (K.faults out.old) (K.faults out.new) result }
     ensures only { IfErr result (λ e. e ≡ Unanswered.Fault) }
     ensures count { K.faults out.old ≤ K.faults out.new }
 {
@@ -169,15 +180,16 @@ fn include<K: Sink>(
     right: u32,
     out: &mut K,
 ) -> Result<(), Unanswered>
-    requires { OfTwo (sets_kept library.now) left right (λ k l. length k.vars ≡ length l.vars) }
-    ensures answered { Answered (sets_kept library.now) (Subset left right) (K.held out.old) (K.held out.new) (K.faults out.old) (K.faults out.new) result }
+    requires sets { OfTwo (sets_kept library.now) left right (λ k l. length k.vars ≡ length l.vars) }
+    requires integers { AreOfIntegers (sets_kept library.now) }
+    ensures answered { Answered library.now.settings (sets_kept library.now) (Subset left right) (K.held out.old) (K.held out.new) (K.faults out.old) (K.faults out.new) result }
     ensures count { K.faults out.old ≤ K.faults out.new }
 {
     match subset(
         alloc,
         &library.held(left).canon,
         &library.held(right).canon,
-        CELLS_LIMIT,
+        library.settings().cells,
     ) {
         Ok(includes) => decide(includes, b"yes\n", b"no\n", out),
         Err(BuildError::Heavy) => Err(Unanswered::Heavy),
@@ -186,41 +198,52 @@ fn include<K: Sink>(
 }
 
 // Writes whether a formula without free variables holds.
-fn check<K: Sink>(alloc: Global, formula: &Formula, out: &mut K) -> Result<(), Unanswered>
-    requires { IsGiven [] (formula_of formula.now) }
-    ensures answered { Answered [] (Check (formula_of formula.now)) (K.held out.old) (K.held out.new) (K.faults out.old) (K.faults out.new) result }
+fn check<K: Sink>(
+    alloc: Global,
+    settings: Settings,
+    formula: &Formula,
+    out: &mut K,
+) -> Result<(), Unanswered>
+    requires limit { settings.cells ≤ 16777216 }
+    requires given { IsGiven settings.base [] (formula_of formula.now) }
+    requires integers { IsOfIntegers [] (formula_of formula.now) }
+    ensures answered { Answered settings [] (Check (formula_of formula.now)) (K.held out.old) (K.held out.new) (K.faults out.old) (K.faults out.new) result }
     ensures count { K.faults out.old ≤ K.faults out.new }
 {
-    let canon = match automaton(alloc, &Vars::new(alloc), formula) {
+    let canon = match automaton(alloc, settings, &Vars::new(alloc), formula) {
         Ok(canon) => canon,
         Err(error) => return Err(unbuilt(error)),
     };
     decide(holds(&canon), b"true\n", b"false\n", out)
 }
 
-/// Answers a statement, where these sets are kept: writes its piece to the sink, or keeps its set. Conditions: its names are right, it
-/// passes no limit, and all its variables are integers.
+/// Answers a statement, where these sets are kept, under the settings of the library: writes its piece to the sink, or keeps its set.
+/// Conditions: its names are right, it passes no limit, and all its variables and those of the kept sets are integers.
 ///
 /// # Errors
 /// `NoPower` where no power of a loop's matrix comes again, and `Closure` where its closure passes a limit, the first in the order of the
-/// variant; `Heavy` where a construction has more than 4,194,304 cells, and `KeptCells` where the kept sets would have more than 67,108,864 together;
-/// nothing is written then. `Fault` where the sink counted a fault; a part of the piece is written. `Memory` where memory is wanting, before a
-/// byte of the piece is written; `print` and `equal` take none. Each leaves the kept sets as they were.
+/// variant; `Heavy` where a construction has more cells than the settings allow, and `KeptCells` where the kept sets would have more than
+/// 67,108,864 together; nothing is written then. `Fault` where the sink counted a fault; a part of the piece is written. `Memory` where memory
+/// is wanting, before a byte of the piece is written; `print` and `equal` take none. Each leaves the kept sets as they were.
 pub fn answer<K: Sink>(
     alloc: Global,
     library: &mut Library,
     statement: Statement,
     out: &mut K,
 ) -> Result<(), Unanswered>
-    requires fit { IsFit (sets_kept library.old) (asked_of statement) }
-    ensures answered { Answered (sets_kept library.old) (asked_of statement) (K.held out.old) (K.held out.new) (K.faults out.old) (K.faults out.new) result }
+    requires fit { IsFit library.old.settings (sets_kept library.old) (asked_of statement) }
+    requires integers { AreOfIntegers (sets_kept library.old) }
+    requires asks { AsksIntegers (asked_of statement) }
+    ensures answered { Answered library.old.settings (sets_kept library.old) (asked_of statement) (K.held out.old) (K.held out.new) (K.faults out.old) (K.faults out.new) result }
     ensures kept { OnOk result (sets_kept library.new ≡ grown (sets_kept library.old) (asked_of statement)) }
     ensures stays { OnErr result (sets_kept library.new ≡ sets_kept library.old) }
+    ensures settings { library.new.settings ≡ library.old.settings }
+    ensures integers { OnOk result (AreOfIntegers (sets_kept library.new)) }
     ensures memory { takes_memory (asked_of statement) ≡ false → IfErr result (λ e. e ≡ Unanswered.Memory → ⊥) }
     ensures count { K.faults out.old ≤ K.faults out.new }
 {
     match statement {
-        Statement::Show { vars, formula } => show(alloc, vars, &formula, out),
+        Statement::Show { vars, formula } => show(alloc, library.settings(), vars, &formula, out),
         Statement::Set {
             name,
             vars,
@@ -231,7 +254,7 @@ pub fn answer<K: Sink>(
         Statement::Test { at, values } => test(alloc, library, at, values.ratios(), out),
         Statement::Equal { left, right } => compare(library, left, right, out),
         Statement::Subset { left, right } => include(alloc, library, left, right, out),
-        Statement::Check { formula } => check(alloc, &formula, out),
+        Statement::Check { formula } => check(alloc, library.settings(), &formula, out),
         Statement::Loop { name, vars, body } => keep_loop(alloc, library, name, vars, body),
     }
 }

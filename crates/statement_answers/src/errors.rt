@@ -4,7 +4,7 @@ use script_meaning::Which;
 use thiserror::Error;
 
 /// Why a statement is not answered.
-#[derive(Clone, Copy, Debug, PartialEq, Eq, Error)]
+#[derive(Debug, Drop, PartialEq, Eq, Error)]
 pub enum Unanswered {
     /// A construction has more cells than the limit.
     #[error("a construction has too many cells")]

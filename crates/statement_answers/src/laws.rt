@@ -5,6 +5,7 @@ ghost use Rattle.script_names.specs.Kept.{KeptSet};
 ghost use Rattle.statement_meaning.specs.Asking.{Asked};
 ghost use Rattle.statement_answers.specs.Pieces.{IsAnswerable, IsPieceOf, IsUnanswered};
 ghost use Rattle.statement_answers.specs.declared.errors.Unanswered.{Unanswered as UnansweredOfModel};
+ghost use Rattle.statement_answers.specs.declared.settings.Settings.{Settings};
 
 use matrix_powers::least_powers_are_unique;
 use product_ops::heavy_or_pairs;
@@ -13,9 +14,9 @@ use set_compile::{heavy_or_compiled, tables_are_unique};
 /// What can be answered has no cause for a refusal but want of memory and a fault of the sink, what has its piece can be answered, and there is
 /// one cause at the most.
 pub fn answers_have_one_cause()
-    ensures answered { (kept : List KeptSet) (asked : Asked) (u : UnansweredOfModel) → IsAnswerable kept asked → IsUnanswered kept asked u → ⊥ }
-    ensures refused { (kept : List KeptSet) (asked : Asked) (u v : UnansweredOfModel) → IsUnanswered kept asked u → IsUnanswered kept asked v → u ≡ v }
-    ensures pieces { (kept : List KeptSet) (asked : Asked) (piece : List ℕ) → IsPieceOf kept asked piece → IsAnswerable kept asked }
+    ensures answered { (settings : Settings) (kept : List KeptSet) (asked : Asked) (u : UnansweredOfModel) → IsAnswerable settings kept asked → IsUnanswered settings kept asked u → ⊥ }
+    ensures refused { (settings : Settings) (kept : List KeptSet) (asked : Asked) (u v : UnansweredOfModel) → IsUnanswered settings kept asked u → IsUnanswered settings kept asked v → u ≡ v }
+    ensures pieces { (settings : Settings) (kept : List KeptSet) (asked : Asked) (piece : List ℕ) → IsPieceOf settings kept asked piece → IsAnswerable settings kept asked }
 {
     heavy_or_compiled();
     tables_are_unique();

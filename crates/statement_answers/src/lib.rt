@@ -7,9 +7,10 @@ mod errors;
 mod laws;
 mod library;
 mod looping;
+mod settings;
 
 pub use answering::answer;
-pub use building::binary;
 pub use errors::Unanswered;
 pub use laws::answers_have_one_cause;
 pub use library::Library;
+pub use settings::Settings;

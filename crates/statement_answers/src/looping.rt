@@ -1,18 +1,21 @@
-//! Keeping the pairs of vectors that the turns of a loop join.
+//! Keeping the pairs of vectors that the iterations of a loop join.
 
 ghost use Rattle.std.specs.Prelude.{◌≡◌, IfErr, IfOk, OnErr, OnOk};
 ghost use Rattle.formula_core.specs.Shape.{formula_of};
+ghost use Rattle.formula_core.specs.Variables.{sorts_of};
 ghost use Rattle.loop_closure.specs.Bodies.{body_of};
 ghost use Rattle.loop_closure.specs.Closing.{IsBody};
+ghost use Rattle.set_answers.specs.Sorts.{AreIntegers};
+ghost use Rattle.set_compile.specs.Conditions.{BindsIntegers};
 ghost use Rattle.statement_meaning.specs.Asking.{Loop};
 ghost use Rattle.statement_answers.specs.Keeping.{grown, sets_kept};
-ghost use Rattle.statement_answers.specs.Loops.{IsFitLoop, IsPairing, IsUnpaired, unclosed_of};
+ghost use Rattle.statement_answers.specs.Loops.{IsFitLoop, IsPairing, IsUnpaired, pairs_of, unclosed_of};
 ghost use Rattle.statement_answers.specs.Pieces.{KeepsSilent};
 
 use crate::answering::keep;
-use crate::building::binary;
 use crate::errors::Unanswered;
 use crate::library::Library;
+use crate::settings::Settings;
 use formula_core::{Formula, Vars, fits_letters};
 use loop_closure::{LoopBody, LoopError, closure};
 use script_meaning::Which;
@@ -35,16 +38,16 @@ fn unclosed(error: LoopError) -> Unanswered
 }
 
 // The formula of a loop's pairs.
-fn pairs(alloc: Global, body: &LoopBody) -> Result<Formula, Unanswered>
+fn pairs(alloc: Global, settings: Settings, body: &LoopBody) -> Result<Formula, Unanswered>
     requires { IsBody (body_of body.now) }
-    ensures pairs { IfOk result (λ f. IsPairing (body_of body.now) (formula_of f)) }
-    ensures cause { IfErr result (λ e. IsUnpaired (body_of body.now) e) }
+    ensures pairs { IfOk result (λ f. IsPairing settings.base (body_of body.now) (formula_of f)) }
+    ensures cause { IfErr result (λ e. IsUnpaired settings.base (body_of body.now) e) }
 {
     let formula = match closure(alloc, body) {
         Ok(formula) => formula,
         Err(error) => return Err(unclosed(error)),
     };
-    if fits_letters(binary(), &formula, body.matrix.side() * 2) {
+    if fits_letters(settings.base, &formula, body.matrix.side() * 2) {
         Ok(formula)
     } else {
         Err(Unanswered::Closure {
@@ -61,12 +64,15 @@ pub(crate) fn keep_loop(
     vars: Vars,
     body: LoopBody,
 ) -> Result<(), Unanswered>
-    requires { IsFitLoop (sets_kept library.old) name vars (body_of body) }
+    requires fit { IsFitLoop (sets_kept library.old) name vars (body_of body) }
+    requires integers { AreIntegers (sorts_of vars) }
     ensures kept { OnOk result (sets_kept library.new ≡ grown (sets_kept library.old) (Loop name vars (body_of body))) }
     ensures stays { OnErr result (sets_kept library.new ≡ sets_kept library.old) }
-    ensures answered { KeepsSilent (sets_kept library.old) (Loop name vars (body_of body)) result }
+    ensures settings { library.new.settings ≡ library.old.settings }
+    ensures bound { OnOk result (BindsIntegers (pairs_of (body_of body))) }
+    ensures answered { KeepsSilent library.old.settings (sets_kept library.old) (Loop name vars (body_of body)) result }
 {
-    match pairs(alloc, &body) {
+    match pairs(alloc, library.settings(), &body) {
         Ok(formula) => keep(alloc, library, name, vars, formula),
         Err(error) => Err(error),
     }

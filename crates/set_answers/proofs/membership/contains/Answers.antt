@@ -7,12 +7,12 @@ use Rattle.set_answers.proofs.WholeFractions.{solved_is_whole, not_too_fine}
 use Rattle.set_answers.proofs.membership.contains.Goals as goal
 
 pub returns-then-not-are_whole : goal.returns-then-not-are_whole
-returns-then-not-are_whole c = λ n f e s ns d h. (λ y. parted y, λ z. c.if-not-are_whole.ensures.1 (solved_is_whole n f c.args.values.now ns d e c.requires.small h z))
+returns-then-not-are_whole c = λ sorts f integers e s ns d h. (λ y. parted y, λ z. c.if-not-are_whole.ensures.1 (solved_is_whole sorts f c.args.values.now ns d integers e c.requires.small h z))
 
 pub unreachable-requires : goal.unreachable-requires
 unreachable-requires c = not_too_fine c.args.values.now (c.if-not-are_whole.ensures.0 refl) (c.in-Err-Denominator.ensures.denominator c.in-Err-Denominator.field-0-is)
 
 pub returns-in-Ok : goal.returns-in-Ok
-returns-in-Ok c = λ n f.
-    member_is c.args.canon.now.table c.base.result n f c.args.values.now (lasso_of c.in-Ok.lasso) c.member.result c.table.ensures.canonical c.requires.count
+returns-in-Ok c = λ sorts f integers.
+    member_is c.args.canon.now.table c.base.result sorts f c.args.values.now (lasso_of c.in-Ok.lasso) c.member.result integers c.table.ensures.canonical c.requires.count
     (c.base.ensures ∙ ap (λ (k : Kept). k.table.base) c.table.ensures.value) c.requires.small (c.if-not-are_whole.ensures.0 refl) c.in-Ok.ensures.code c.member.ensures

@@ -2,10 +2,10 @@ use Rattle.statement_answers.proofs.Excluding.{Laws, not_unanswered, one_cause, 
 use Rattle.statement_answers.proofs.laws.answers_have_one_cause.Goals as goal
 
 pub returns-clause-answered : goal.returns-clause-answered
-returns-clause-answered c = not_unanswered (record { heavy = c.heavy_or_compiled.ensures; one_table = c.tables_are_unique.ensures.compiled; heavy_pairs = c.heavy_or_pairs.ensures; one_power = c.least_powers_are_unique.ensures.unique; powerless = c.least_powers_are_unique.ensures.excluded })
+returns-clause-answered c = λ settings. not_unanswered settings (record { heavy = c.heavy_or_compiled.ensures; one_table = c.tables_are_unique.ensures.compiled; heavy_pairs = c.heavy_or_pairs.ensures; one_power = c.least_powers_are_unique.ensures.unique; powerless = c.least_powers_are_unique.ensures.excluded })
 
 pub returns-clause-refused : goal.returns-clause-refused
-returns-clause-refused c = one_cause (record { heavy = c.heavy_or_compiled.ensures; one_table = c.tables_are_unique.ensures.compiled; heavy_pairs = c.heavy_or_pairs.ensures; one_power = c.least_powers_are_unique.ensures.unique; powerless = c.least_powers_are_unique.ensures.excluded })
+returns-clause-refused c = λ settings. one_cause settings (record { heavy = c.heavy_or_compiled.ensures; one_table = c.tables_are_unique.ensures.compiled; heavy_pairs = c.heavy_or_pairs.ensures; one_power = c.least_powers_are_unique.ensures.unique; powerless = c.least_powers_are_unique.ensures.excluded })
 
 pub returns-clause-pieces : goal.returns-clause-pieces
 returns-clause-pieces c = piece_answerable

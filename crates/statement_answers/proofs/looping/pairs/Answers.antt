@@ -6,11 +6,11 @@ use Rattle.statement_answers.proofs.Pairing.{pairing, unpaired}
 use Rattle.statement_answers.proofs.looping.pairs.Goals as goal
 
 pub returns-in-Err-clause-cause : goal.returns-in-Err-clause-cause
-returns-in-Err-clause-cause c = rw c.unclosed.ensures (unpaired (body_of c.args.body.now) c.in-Err.error c.in-Err.ensures.cause)
+returns-in-Err-clause-cause c = rw c.unclosed.ensures (unpaired c.args.settings.base (body_of c.args.body.now) c.in-Err.error c.in-Err.ensures.cause)
 
 pub returns-then-fits_letters-clause-pairs : goal.returns-then-fits_letters-clause-pairs
 returns-then-fits_letters-clause-pairs c =
     let fits = c.fits_letters.ensures.0 c.if-fits_letters.true in
     let twice : c.side.result * 2 ≡ c.args.body.now.matrix.side + c.args.body.now.matrix.side = omega (arith, c.side.ensures.value) in
-    pairing (body_of c.args.body.now) (formula_of c.in-Ok.formula) c.in-Ok.ensures.formula c.in-Ok.ensures.within c.in-Ok.ensures.over c.in-Ok.ensures.ints
-    (subst (λ n. FitsLetters 2 (formula_of c.in-Ok.formula) n) twice (subst (λ b. FitsLetters b (formula_of c.in-Ok.formula) (c.side.result * 2)) c.binary.ensures fits))
+    pairing c.args.settings.base (body_of c.args.body.now) (formula_of c.in-Ok.formula) c.in-Ok.ensures.formula c.in-Ok.ensures.within c.in-Ok.ensures.over c.in-Ok.ensures.ints
+    (subst (λ n. FitsLetters c.args.settings.base (formula_of c.in-Ok.formula) n) twice fits)

@@ -6,4 +6,4 @@ use Rattle.statement_answers.proofs.Shelving.{all_given}
 use Rattle.statement_answers.proofs.library.Library.defs.Goals as goal
 
 pub returns-clause-given : goal.returns-clause-given
-returns-clause-given c = subst (λ (l : Library). All (λ k. IsGiven k.vars k.formula) (sets_kept l)) c.self.view_is (all_given _ _ c.self.invariant.each)
+returns-clause-given c = subst (λ (l : Library). All (λ k. IsGiven l.settings.base k.vars k.formula) (sets_kept l)) c.self.view_is (all_given _ _ _ c.self.invariant.each)
