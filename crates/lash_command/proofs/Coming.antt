@@ -6,7 +6,6 @@ use Rattle.std.proofs.lemmas.List.{length-append}
 use Rattle.std.proofs.lemmas.List.Folds.{concat-append}
 use Rattle.std.proofs.lemmas.List.{map-append}
 use Rattle.script_names.specs.Kept.{KeptSet}
-use Rattle.statement_meaning.specs.Asking.{Asked}
 use Rattle.statement_answers.specs.Keeping.{grown}
 use Rattle.statement_answers.specs.declared.settings.Settings.{Settings}
 use Rattle.lash_io.specs.Sinks.{Holds}

@@ -1,5 +1,5 @@
 -- What stands at the bytes ahead is one thing, and so a run has one ending.
-use Rattle.std.proofs.Common.{◌≡◌, ℕ, ◌+◌, ◌≤◌, ◌<◌, List, [], ◌∷◌, ◌++◌, length, map, take, drop, Bool, true, false, arith, refl, sym, ap, ap₂, ◌∙◌, subst, inl, inr, append_assoc, append-nil, Option, Some, None}
+use Rattle.std.proofs.Common.{◌≡◌, ℕ, ◌+◌, ◌≤◌, List, [], ◌∷◌, ◌++◌, length, map, take, drop, Bool, true, false, arith, refl, sym, ap, ap₂, ◌∙◌, subst, inl, inr, append_assoc, append-nil, Option, Some, None}
 use Rattle.std.specs.Prelude.{◌⊎◌, IfSome, unwrap_or}
 use Rattle.std.specs.Io.KnownBytes.{prepend_known, IsAtEnd}
 use Rattle.std.proofs.lemmas.Bool.{true≢false}
@@ -10,30 +10,28 @@ use Rattle.lash_io.specs.Faults.{IsFaultCounted}
 use Rattle.lash_io.specs.Sinks.{Holds}
 use Rattle.script_tokens.specs.Tokens.{PlacedToken}
 use Rattle.script_tokens.specs.Lexing.{tokens_of}
-use Rattle.script_statements.specs.Statements.{StatementShape}
 use Rattle.script_pieces.specs.Cuts.{statement_length, piece_length}
 use Rattle.script_pieces.specs.Limits.{IsWithin, IsRefused}
 use Rattle.script_pieces.specs.Taking.{Progress}
-use Rattle.script_pieces.specs.Answers.{IsRest, IsTooLong}
+use Rattle.script_pieces.specs.Answers.{IsTooLong}
 use Rattle.script_pieces.specs.declared.errors.PieceError.{PieceError}
 use Rattle.script_pieces.specs.declared.errors.PieceError.TheVariants.{Read as FaultyRead, StatementBytes as LongStatement, ScriptBytes as LongScript}
 use Rattle.script_pieces.proofs.Cutting.{stable, within}
 use Rattle.script_names.specs.Kept.{KeptSet}
 use Rattle.script_meaning.specs.declared.limits.Which.{Which}
-use Rattle.script_meaning.specs.declared.limits.Which.TheVariants.{KeptCells as CellsLimit}
 use Rattle.statement_meaning.specs.Asking as meaning
 use Rattle.statement_meaning.specs.Asking.{Asked}
 use Rattle.statement_meaning.specs.Judging.{statement_fault, IsStatementWithin}
 use Rattle.statement_answers.specs.Keeping.{grown}
-use Rattle.statement_answers.specs.Pieces.{IsHeavyAsked, IsTooMuch, IsPowerless, IsPassedByClosure, IsAnswerable, IsUnanswered, IsPieceOf}
+use Rattle.statement_answers.specs.Pieces.{IsAnswerable, IsUnanswered, IsPieceOf}
 use Rattle.statement_answers.specs.declared.settings.Settings.{Settings}
 use Rattle.statement_answers.specs.declared.errors.Unanswered.{Unanswered}
 use Rattle.statement_answers.specs.declared.errors.Unanswered.TheVariants as answering
-use Rattle.script_parse.specs.Answers.{OfStatement, Spells, AreRefused, IsFirstRefused, IsCause, error_of}
+use Rattle.script_parse.specs.Answers.{OfStatement, AreRefused, IsFirstRefused, IsCause, error_of}
 use Rattle.script_parse.specs.declared.errors.ScriptError.{ScriptError}
 use Rattle.script_parse.specs.declared.errors.ScriptError.TheVariants as reading
 use Rattle.script_parse.proofs.Excluding.{refusals_are_one, fit_or_refused, one_shape}
-use Rattle.lash_command.specs.Answers.{IsWhole, IsAsking, IsAnswered, Answer, AreAnswered, kept_behind, texts_of, pieces_of, Outside, HasCome, Claim, Stops, StopsAt, StopsSomewhere, IsBlankRest, IsNextAsked, IsUnread, Ends, Explains, unread_ending, unanswered_ending}
+use Rattle.lash_command.specs.Answers.{IsWhole, IsAsking, Answer, AreAnswered, kept_behind, texts_of, pieces_of, Outside, Claim, Stops, IsBlankRest, IsNextAsked, IsUnread, Ends, Explains, unread_ending, unanswered_ending}
 use Rattle.lash_command.specs.Scripts.{is_decided, Written, written_of, written_texts, IsGood, AreGood, IsBlank, IsGoodScript, AreAllAnswered}
 use Rattle.lash_command.specs.declared.ending.Refusal.TheVariants.{Syntax, Name, Limit, NoPower, Heavy}
 use Rattle.lash_command.specs.declared.ending.Ending.{Ending}

@@ -1,6 +1,6 @@
 -- A statement that was read is one that is answered: its sets are of integers, and its names and numbers are right.
-use Rattle.std.proofs.Common.{◌≡◌, ℕ, zero, suc, ◌+◌, ◌≤◌, ◌<◌, ◌^◌, List, [], ◌∷◌, length, map, get_or, arith, refl, sym, ap, ◌∙◌, subst, Bool, true, false, ◌||◌, ◌&&◌, cond, not, pos, nat_eq, nat_lt, Option, None, Some, inl, inr}
-use Rattle.std.specs.List.{All, position, slice_get}
+use Rattle.std.proofs.Common.{◌≡◌, ℕ, zero, suc, ◌≤◌, ◌<◌, ◌^◌, List, [], ◌∷◌, length, map, arith, refl, sym, ap, ◌∙◌, subst, Bool, true, false, ◌||◌, ◌&&◌, cond, not, pos, nat_eq, nat_lt, Option, None, Some}
+use Rattle.std.specs.List.{All, slice_get}
 use Rattle.std.specs.Option.{option_map}
 use Rattle.std.proofs.lemmas.Bool.{ltb-false, ltb-true, eqb-true, true≢false}
 use Rattle.std.proofs.lemmas.Int.{ints}
@@ -8,26 +8,24 @@ use Rattle.std.proofs.lemmas.List.{length-map}
 use Rattle.parser_laws.proofs.Parts.{same_some, not_none}
 use Rattle.std.proofs.lemmas.List.Quantifiers.{position-Some}
 use Rattle.std.specs.Prelude.{unsigned_abs}
-use Rattle.lash_model.specs.Formulas.{Sort, Formula, AtMost, Atom}
+use Rattle.lash_model.specs.Formulas.{Sort, AtMost, Atom}
 use Rattle.formula_core.specs.Variables.{sorts_of}
 use Rattle.fraction_codes.specs.Fractions.{IsSmall}
-use Rattle.fraction_codes.specs.declared.ratio.Ratio.{Ratio}
-use Rattle.script_syntax.specs.Trees.{Named, DeclarationShape, TreeShape}
+use Rattle.script_syntax.specs.Trees.{Named}
 use Rattle.script_statements.specs.Values.{RationalShape}
 use Rattle.script_statements.specs.Statements.{ComprehensionShape, StatementShape, Show, Set, Print, Solve, Test, Equal, Subset, Check, Loop}
 use Rattle.script_names.specs.Kept.{KeptSet, IsKept, kept_place, kept_set, set_at, sets_limit}
 use Rattle.script_names.specs.Faults.{or_else, fault_at, unknown, repeated, set_fault}
 use Rattle.script_names.specs.declared.names.FaultAt.{FaultAt}
 use Rattle.script_names.specs.declared.names.NameFault.TheVariants.{Misused}
-use Rattle.script_names.specs.Scopes.{with_declared}
-use Rattle.script_meaning.specs.Core.{core, signed}
+use Rattle.script_meaning.specs.Core.{signed}
 use Rattle.script_meaning.specs.Limits.{literal_limit}
 use Rattle.script_meaning.specs.Resolving.{IsWithin}
 use Rattle.script_tokens.specs.Tokens.{PlacedToken}
 use Rattle.script_tokens.specs.Lexing.{tokens_of}
 use Rattle.script_pieces.specs.Taking.{Progress}
 use Rattle.script_parse.specs.Answers.{Spells, IsNext}
-use Rattle.script_parse.specs.Plain.{IsPlainSet, IsPlainTree, IsPlainStatement}
+use Rattle.script_parse.specs.Plain.{IsPlainStatement}
 use Rattle.statement_meaning.specs.Asking as ask
 use Rattle.statement_meaning.specs.Asking.{Asked, asked, asked_of, of_both}
 use Rattle.loop_meaning.specs.Looping.{loop_fault}
@@ -36,8 +34,8 @@ use Rattle.statement_meaning.specs.Judging.{IsJudged, IsStatementWithin, stateme
 use Rattle.statement_meaning.specs.declared.statement.Statement.{Statement}
 use Rattle.statement_answers.specs.Automata.{IsGiven, IsOfIntegers, AreOfIntegers}
 use Rattle.statement_answers.specs.declared.settings.Settings.{Settings}
-use Rattle.statement_answers.specs.Keeping.{OfKept, OfTwo}
-use Rattle.statement_answers.specs.Pieces.{IsFit, FitsVariables, AsksIntegers}
+use Rattle.statement_answers.specs.Keeping.{OfTwo}
+use Rattle.statement_answers.specs.Pieces.{IsFit, AsksIntegers}
 use Rattle.statement_answers.proofs.Conditions.{substituted_over}
 use Rattle.statement_answers.proofs.Pairing.{few_places}
 use Rattle.statement_answers.proofs.Shelving.{here}

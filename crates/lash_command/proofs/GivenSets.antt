@@ -1,6 +1,6 @@
 -- A set that was read is one that is compiled: its terms are over the declared variables and inside the limits, and
 -- the variables, declared and bound, are integers, where those of the kept sets are.
-use Rattle.std.proofs.Common.{◌≡◌, ℕ, zero, suc, ◌+◌, ◌≤◌, ◌<◌, List, [], ◌∷◌, length, map, arith, refl, sym, ◌∙◌, subst, ap, Bool, true, false, ◌||◌, cond, nat_eq, nat_lt, Option, None, Some}
+use Rattle.std.proofs.Common.{◌≡◌, ℕ, zero, suc, ◌+◌, ◌≤◌, ◌<◌, List, [], ◌∷◌, length, map, arith, refl, sym, ◌∙◌, subst, Bool, true, false, ◌||◌, cond, nat_eq, nat_lt, Option, None, Some}
 use Rattle.std.specs.List.{AllByRecursion, All}
 use Rattle.std.proofs.lemmas.Bool.{ltb-false, true≢false}
 use Rattle.std.proofs.lemmas.List.{length-append, length-map}

@@ -1,6 +1,6 @@
 -- A loop that was read is one that is kept: its body is inside the limits, and its variables are integers.
 use Rattle.std.proofs.Common.{◌≡◌, ℕ, zero, suc, ◌+◌, ◌≤◌, ◌<◌, ◌^◌, List, [], ◌∷◌, ◌++◌, length, map, arith, refl, sym, ap, ◌∙◌, subst, Bool, true, false, cond, nat_lt, Option, None, Some}
-use Rattle.std.specs.List.{All, AllByRecursion}
+use Rattle.std.specs.List.{AllByRecursion}
 use Rattle.std.specs.Prelude.{◌↔◌, ℤ, unsigned_abs}
 use Rattle.std.proofs.lemmas.Bool.{ltb-false}
 use Rattle.std.proofs.lemmas.List.{length-append, length-map}
@@ -8,7 +8,7 @@ use Rattle.std.proofs.lemmas.List.Elements.{All-from_recursion}
 use Rattle.parser_laws.proofs.Parts.{not_none}
 use Rattle.integer_laws.specs.Vectors.{vector_from}
 use Rattle.integer_laws.proofs.Entries.{length-vector_from}
-use Rattle.lash_model.specs.Formulas.{Sort, Int, Formula}
+use Rattle.lash_model.specs.Formulas.{Sort, Int}
 use Rattle.lash_model.specs.Meaning.{holds}
 use Rattle.formula_core.specs.Variables.{sorts_of}
 use Rattle.script_grammar.specs.Statements.{Bound, AtMost, Below, AtLeast, Above, Equal}
@@ -27,7 +27,6 @@ use Rattle.matrix_powers.specs.Orbits.{IsShift}
 use Rattle.matrix_powers.specs.Powers.{IsPower}
 use Rattle.loop_laws.specs.Turns.{Body, IsMember, IsGuard, after}
 use Rattle.loop_laws.specs.Closures.{closure_of}
-use Rattle.loop_closure.specs.Closing.{IsBody}
 use Rattle.loop_meaning.specs.Guards.{relation_of_bound, constraint_tree, joined_guard, guard_tree}
 use Rattle.loop_meaning.specs.Assigning.{is_place, assigned_to, becomes, next_term, next_shift, shift_passes}
 use Rattle.loop_meaning.specs.Looping.{scope_of, guard_of, loop_literal, loop_variables_limit, loop_passed, shift_limit, loop_body, primed, loop_variables}

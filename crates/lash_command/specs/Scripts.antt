@@ -1,5 +1,5 @@
 -- Scripts that are answered to their end, and endings that the bytes alone decide. Own.
-use Rattle.std.specs.Prelude.{ℕ, ◌+◌, ◌≡◌, Bool, true, false, List, [], ◌∷◌, ◌++◌, length, map, Option, None, Some}
+use Rattle.std.specs.Prelude.{ℕ, ◌+◌, ◌≡◌, Bool, true, false, List, [], ◌∷◌, ◌++◌, length, map, None, Some}
 use Rattle.lash_io.specs.Sinks.{Holds}
 use Rattle.script_tokens.specs.Lexing.{tokens_of}
 use Rattle.script_pieces.specs.Cuts.{statement_length}
@@ -11,7 +11,6 @@ use Rattle.statement_answers.specs.Pieces.{IsAnswerable}
 use Rattle.statement_answers.specs.declared.settings.Settings.{Settings}
 use Rattle.script_parse.specs.Answers.{OfStatement}
 use Rattle.lash_command.specs.Answers.{IsWhole, IsAsking, Answer, AreAnswered, pieces_of, Outside}
-use Rattle.lash_command.specs.declared.ending.Refusal.{Refusal}
 use Rattle.lash_command.specs.declared.ending.Ending.{Ending}
 use Rattle.lash_command.specs.declared.ending.Ending.TheVariants.{Finished, Usage, Refused, ReadFault, WriteFault, NoMemory, Unbuilt}
 

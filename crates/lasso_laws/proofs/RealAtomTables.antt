@@ -1,5 +1,5 @@
 -- The table of an atom over the fractions has a graph of bounds, so it stands for its atom, and is weak.
-use Rattle.std.proofs.Common.{◌≡◌, ℕ, ◌+◌, ◌-◌, ◌*◌, ◌^◌, ◌<◌, ◌≤◌, List, length, arith, refl, ◌∙◌, sym, ap, subst, unsigned_abs}
+use Rattle.std.proofs.Common.{◌≡◌, ℕ, ◌+◌, ◌-◌, ◌*◌, ◌^◌, ◌<◌, ◌≤◌, List, arith, refl, ◌∙◌, sym, ap, subst}
 use Rattle.std.proofs.Math.IntN.{ℤ, pos, negsuc, ◌+ℤ◌, ◌-ℤ◌}
 use Rattle.std.specs.Prelude.{◌≤ℤ◌, ◌<ℤ◌, slice_index}
 use Rattle.std.proofs.lemmas.Int.{ints}
@@ -11,7 +11,7 @@ use Rattle.lash_model.specs.Tables.{Table, letters}
 use Rattle.lash_model.specs.Standing.{StandsForMixed}
 use Rattle.part_laws.specs.Graphs.{IsWeak}
 use Rattle.part_laws.specs.CanonicalMixed.{fraction_graph}
-use Rattle.lasso_laws.specs.Windows.{lowest, window, window_end, above_colour, next_bound, IsBoundGraph, CountsBounds}
+use Rattle.lasso_laws.specs.Windows.{lowest, window, window_end, above_colour, next_bound, IsBoundGraph}
 use Rattle.lasso_laws.specs.RealAtoms.{bound_states, bound_state, IsWindowGraph, IsRealAtomTable}
 use Rattle.lasso_laws.proofs.AtomsStand.{window_stands}
 use Rattle.lasso_laws.proofs.WindowsWeak.{windows_weak}

@@ -11,7 +11,7 @@ use Rattle.lash_model.specs.Formulas.{Linear, coefficient_sum, Comparison}
 use Rattle.lash_model.specs.Tables.{IsTable}
 use Rattle.threshold_laws.specs.Thresholds.{one_if, letter_total, Among, AreThresholds}
 use Rattle.threshold_laws.proofs.AtomTables.{seed_is_threshold, some_member, given_threshold}
-use Rattle.lasso_laws.specs.Windows.{lowest, window, window_end, next_bound, window_seeds}
+use Rattle.lasso_laws.specs.Windows.{lowest, window, window_end, window_seeds}
 use Rattle.lasso_laws.specs.RealAtoms.{bound_states, bound_state, IsWindowGraph, IsRealAtomTable}
 use Rattle.lasso_laws.proofs.RealAtomTables.{window_below}
 use Rattle.step_tables.specs.Kept.{Kept}

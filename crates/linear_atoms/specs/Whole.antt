@@ -1,5 +1,5 @@
 -- The table of whole numbers as far as it is filled.
-use Rattle.std.specs.Prelude.{◌≡◌, ℕ, zero, suc, ◌+◌, ◌*◌, ◌^◌, ◌<◌, List, [], ◌∷◌, slice_index, replicate}
+use Rattle.std.specs.Prelude.{◌≡◌, ℕ, zero, suc, ◌+◌, ◌*◌, ◌^◌, ◌<◌, [], ◌∷◌, slice_index, replicate}
 use Rattle.lash_model.specs.Letters.{digit}
 use Rattle.lash_model.specs.Tables.{IsTable}
 use Rattle.lasso_laws.specs.WholeNumbers.{first_state, zeros_state, last_state}

@@ -6,7 +6,6 @@ use Rattle.std.proofs.lemmas.Bool.{cases_eq, cases_lt}
 use Rattle.std.proofs.lemmas.List.{get_or-set_same, get_or-set_other, length-set, length-append, get_or_push, get_or_append_left}
 use Rattle.std.proofs.lemmas.List.Elements.{All-push}
 use mathlib.Core.Logic.{inl, inr}
-use Rattle.graph_laws.specs.Walks.{go, copies}
 use Rattle.lash_model.specs.Tables.{Table, letters, ints, fracs, IsTable}
 use Rattle.part_laws.proofs.Turning.{turns, turns-add}
 use Rattle.part_laws.proofs.Walking.{round, walk-copies}

@@ -1,7 +1,7 @@
 -- Exchanging outputs, one by one, and what the exchanged diagram accepts.
-use Rattle.std.proofs.Common.{◌≡◌, ℕ, zero, suc, ◌+◌, ◌-◌, ◌*◌, ◌^◌, ◌≤◌, ◌<◌, ◌↔◌, Bool, true, false, not, IsTrue, List, [], ◌∷◌, ◌++◌, length, map, take, drop, arith, refl, ◌∙◌, sym, ap, subst, add-one}
-use Rattle.std.specs.Prelude.{slice_set, slice_index, nat_eq, if◌then◌else◌, All}
-use Rattle.std.specs.List.{slice_index_or, AllByRecursion}
+use Rattle.std.proofs.Common.{◌≡◌, ℕ, zero, suc, ◌+◌, ◌-◌, ◌*◌, ◌≤◌, ◌<◌, ◌↔◌, Bool, true, false, not, IsTrue, List, [], ◌∷◌, length, arith, refl, ◌∙◌, sym, ap, subst, add-one}
+use Rattle.std.specs.Prelude.{slice_set, slice_index, nat_eq, if◌then◌else◌}
+use Rattle.std.specs.List.{AllByRecursion}
 use Rattle.std.proofs.Math.IntN.{ℤ}
 use Rattle.std.proofs.lemmas.List.{get_or-map, length-map}
 use Rattle.std.proofs.lemmas.List.Elements.{recursion_from_All}

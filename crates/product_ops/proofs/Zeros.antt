@@ -1,5 +1,5 @@
 -- States after letters 0: in a weak table all colours after so many letters as there are fraction states are one.
-use Rattle.std.proofs.Common.{◌≡◌, ℕ, zero, suc, ◌+◌, ◌-◌, ◌*◌, ◌/◌, ◌%◌, ◌^◌, ◌≤◌, ◌<◌, ◌↔◌, Bool, true, false, IsTrue, List, [], ◌∷◌, ◌++◌, length, map, arith, refl, ◌∙◌, sym, ap, subst}
+use Rattle.std.proofs.Common.{◌≡◌, ℕ, zero, suc, ◌+◌, ◌-◌, ◌*◌, ◌/◌, ◌%◌, ◌^◌, ◌≤◌, ◌<◌, ◌↔◌, Bool, true, false, IsTrue, List, [], ◌∷◌, length, arith, refl, ◌∙◌, sym, ap, subst}
 use Rattle.std.specs.Prelude.{slice_index, nat_eq, All}
 use Rattle.std.proofs.Math.IntN.{ℤ, pos, ◌+ℤ◌, ◌*ℤ◌}
 use Rattle.std.proofs.Math.Nat.{pow-zero, pow-suc, zero-div, zero-mod}
@@ -7,21 +7,21 @@ use Rattle.std.proofs.lemmas.Bool.{eqb-true}
 use Rattle.std.proofs.lemmas.Int.{ints as int_rules}
 use Rattle.std.proofs.lemmas.List.Elements.{recursion_from_All}
 use Rattle.graph_laws.specs.Walks.{go, copies}
-use Rattle.integer_laws.specs.Vectors.{scale, vector}
+use Rattle.integer_laws.specs.Vectors.{scale}
 use Rattle.integer_laws.proofs.Entries.{scale-vector_from, vector_from_same}
 use Rattle.lash_model.specs.Letters.{digits, digit}
 use Rattle.lash_model.specs.Words.{spelled, value, values}
-use Rattle.lash_model.specs.Lassos.{Lasso, IsLasso, denominator, numerator, numerators}
+use Rattle.lash_model.specs.Lassos.{Lasso, denominator, numerator, numerators}
 use Rattle.lash_model.specs.Sets.{IsOfFractions}
 use Rattle.lash_model.specs.Standing.{StandsForWhole, StandsForMixed}
 use Rattle.lash_model.specs.Tables.{Table, letters, ints, fracs, IsTable}
-use Rattle.lash_model.specs.Acceptance.{int_state, accepts_word, accepts_lasso}
+use Rattle.lash_model.specs.Acceptance.{int_state, accepts_lasso}
 use Rattle.lash_model.proofs.Digits.{power_positive}
 use Rattle.part_laws.specs.Graphs.{Graph, colour, IsWord, IsGraph, IsWeak}
 use Rattle.part_laws.specs.CanonicalMixed.{fraction_graph}
 use Rattle.part_laws.proofs.Turning.{turns, turns-add, Back, back_later, on_its_loop, settles}
 use Rattle.part_laws.proofs.Walking.{round, walk-copies, walk_below, weak_turns}
-use Rattle.part_laws.proofs.LassoWords.{AreWords, words_lasso, fraction_is_graph, root_in, out_in, int_walk_in}
+use Rattle.part_laws.proofs.LassoWords.{words_lasso, fraction_is_graph, root_in, out_in, int_walk_in}
 use Rattle.part_laws.proofs.Mapped.{map_at}
 use Rattle.product_ops.specs.Restriction.{colour_of_zeros, restricted, whole_lasso, AcceptsWholes, IsAfterZeros, AreEnds}
 

@@ -1,11 +1,11 @@
 -- Canonical tables are equal exactly where their sets agree, and so are their texts.
-use Rattle.std.proofs.Common.{◌≡◌, ℕ, ◌^◌, ◌≤◌, ◌<◌, List, length, arith, ◌∙◌, sym, ap, subst}
+use Rattle.std.proofs.Common.{◌≡◌, ℕ, ◌^◌, ◌≤◌, ◌<◌, List, length, ◌∙◌, sym, ap, subst}
 use Rattle.std.specs.Prelude.{◌↔◌}
 use Rattle.std.proofs.lemmas.List.Elements.{recursion_from_All}
 use Rattle.lash_model.specs.Formulas.{Sort, Formula}
 use Rattle.lash_model.specs.Meaning.{Solves}
-use Rattle.lash_model.specs.Words.{value, values}
-use Rattle.lash_model.specs.Tables.{Table, IsTable}
+use Rattle.lash_model.specs.Words.{values}
+use Rattle.lash_model.specs.Tables.{Table}
 use Rattle.lash_model.specs.Standing.{StandsForWhole, StandsFor, all_int}
 use Rattle.formula_core.specs.Variables.{sorts_of}
 use Rattle.automaton_texts.specs.Text.{text_of}

@@ -1,10 +1,9 @@
 -- The difference of two tables accepts nothing exactly where the first set is included in the second.
-use Rattle.std.proofs.Common.{◌≡◌, ℕ, ◌*◌, ◌^◌, ◌<◌, ◌≤◌, Bool, true, false, List, [], length, arith, refl, ◌∙◌, sym, ap, subst}
-use Rattle.std.proofs.Math.IntN.{ℤ}
+use Rattle.std.proofs.Common.{◌≡◌, ℕ, ◌^◌, ◌<◌, Bool, true, false, List, length, arith, refl, ◌∙◌, sym, ap, subst}
 use Rattle.std.specs.Prelude.{slice_index, nat_eq, All, IsTrue, ◌↔◌}
 use Rattle.std.proofs.lemmas.Bool.{eqb-true}
 use Rattle.std.proofs.lemmas.List.{length-map}
-use Rattle.std.proofs.lemmas.List.Elements.{recursion_from_All, All-from_recursion}
+use Rattle.std.proofs.lemmas.List.Elements.{recursion_from_All}
 use Rattle.integer_laws.proofs.Entries.{length-vector_from}
 use Rattle.graph_laws.specs.Walks.{go}
 use Rattle.graph_laws.specs.Paths.{Path, path_at, start_path}
@@ -17,9 +16,9 @@ use Rattle.lash_model.specs.Tables.{Table, letters, ints, IsTable}
 use Rattle.lash_model.specs.Acceptance.{int_state, accepts_word}
 use Rattle.lash_model.specs.Standing.{StandsForWhole, StandsFor, all_int}
 use Rattle.lash_model.proofs.Wholeness.{whole_over_one}
-use Rattle.canonical_laws.specs.Canonical.{IsPathOf, IsCanonical}
+use Rattle.canonical_laws.specs.Canonical.{IsCanonical}
 use Rattle.solution_pick.proofs.PathEnds.{state_in}
-use Rattle.product_ops.specs.Tracks.{TrackLists, pick_entries}
+use Rattle.product_ops.specs.Tracks.{TrackLists}
 use Rattle.product_ops.specs.Operations.{joined}
 use Rattle.product_ops.specs.Pairs.{pairs, left_operand, right_operand, IsPairTable}
 use Rattle.product_ops.specs.declared.operation.Op.TheVariants.{AndNot}

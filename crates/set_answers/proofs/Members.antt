@@ -1,12 +1,12 @@
 -- A canonical diagram accepts the code of a vector of whole fractions exactly where the vector solves its set.
-use Rattle.std.proofs.Common.{◌≡◌, ℕ, ◌^◌, ◌<◌, Bool, false, true, List, length, ◌∙◌, sym, ap, subst}
+use Rattle.std.proofs.Common.{◌≡◌, ℕ, Bool, false, true, List, length, ◌∙◌, sym, subst}
 use Rattle.std.proofs.Math.IntN.{ℤ}
 use Rattle.std.specs.Prelude.{All, IsTrue, ◌↔◌}
 use Rattle.lash_model.specs.Formulas.{Sort, Formula}
 use Rattle.lash_model.specs.Lassos.{Lasso, IsLasso}
 use Rattle.lash_model.specs.Meaning.{Solves}
 use Rattle.lash_model.specs.Words.{values}
-use Rattle.lash_model.specs.Tables.{Table, letters}
+use Rattle.lash_model.specs.Tables.{Table}
 use Rattle.lash_model.specs.Acceptance.{accepts_word}
 use Rattle.lash_model.specs.Standing.{StandsFor, all_int}
 use Rattle.canonical_laws.specs.Canonical.{IsCanonical}

@@ -6,7 +6,7 @@ use Rattle.std.specs.Prelude.{slice_index, All, IsTrue, ◌↔◌}
 use Rattle.std.specs.List.{slice_index_or}
 use Rattle.std.proofs.lemmas.Int.{ints}
 use Rattle.std.proofs.lemmas.List.{ext_get_or}
-use Rattle.integer_laws.specs.Vectors.{scale, vector_from}
+use Rattle.integer_laws.specs.Vectors.{scale}
 use Rattle.integer_laws.proofs.Entries.{scale-vector_from, vector_from_same}
 use Rattle.graph_laws.specs.Paths.{Path}
 use Rattle.lash_model.specs.Formulas.{Sort, Formula}
@@ -18,7 +18,7 @@ use Rattle.lash_model.specs.Tables.{Table, letters, IsTable}
 use Rattle.lash_model.specs.Acceptance.{accepts_word}
 use Rattle.lash_model.specs.Standing.{StandsForWhole, StandsFor, all_int}
 use Rattle.fraction_codes.specs.declared.ratio.Ratio.{Ratio}
-use Rattle.solution_pick.specs.Solutions.{AcceptsNothing, IsLeastAccepted}
+use Rattle.solution_pick.specs.Solutions.{AcceptsNothing}
 use Rattle.solution_pick.proofs.Accepted.{not_both, one_path}
 use Rattle.set_answers.specs.Agreement.{IsEmptySet}
 use Rattle.set_answers.specs.Solving.{AreFound, solution_text, IsFixedSolution, IsSolutionText, IsSolved}

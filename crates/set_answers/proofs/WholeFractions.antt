@@ -1,15 +1,15 @@
 -- Fractions that are whole: their floors, and what of them stands in vectors.
-use Rattle.std.proofs.Common.{◌≡◌, ℕ, zero, suc, ◌+◌, ◌*◌, ◌%◌, ◌^◌, ◌≤◌, ◌<◌, List, [], ◌∷◌, length, inl, inr, arith, refl, ◌∙◌, sym, ap, subst}
+use Rattle.std.proofs.Common.{◌≡◌, ℕ, zero, suc, ◌+◌, ◌*◌, ◌%◌, ◌≤◌, ◌<◌, List, length, inl, inr, arith, refl, ◌∙◌, sym, ap, subst}
 use Rattle.std.proofs.Math.IntN.{ℤ, pos, negsuc, ◌+ℤ◌, ◌*ℤ◌}
 use Rattle.std.specs.Prelude.{◌↔◌, ◌≤ℤ◌, nat_eq, unsigned_abs, All, IsTrue, Some, slice_get}
-use Rattle.std.specs.Int.{int_div_euclid, int_rem_euclid}
+use Rattle.std.specs.Int.{int_rem_euclid}
 use Rattle.std.specs.List.{slice_index_or}
 use Prim.Native.Nat.{◌∣◌}
 use Rattle.std.proofs.lemmas.Bool.{cases_lt, eqb-true, eq-eqb}
 use Rattle.std.proofs.lemmas.Int.{ints, unsigned_abs-mul}
 use Rattle.std.proofs.lemmas.List.{ext_get_or, get_or_default}
 use Rattle.std.proofs.lemmas.Nat.Gcd.{le_of_dvd, dvd_of_mod-eq-zero, mod-eq-zero_of_dvd}
-use Rattle.std.proofs.lemmas.Option.{slice_get-get_or, get_or_from_slice_get, slice_get_within}
+use Rattle.std.proofs.lemmas.Option.{slice_get-get_or}
 use Rattle.integer_laws.specs.Vectors.{scale}
 use Rattle.integer_laws.proofs.Entries.{length-vector_from, entry-vector, entry-scale}
 use Rattle.integer_laws.proofs.Ring.{times_comm, times_assoc, eq_unscaled}
@@ -26,7 +26,7 @@ use Rattle.fraction_codes.proofs.Flooring.{floor_parts, above_below, to_above}
 use Rattle.set_answers.specs.Sorts.{AreIntegers}
 use Rattle.set_answers.specs.Vectors.{IsVectorOf}
 use Rattle.set_answers.proofs.IntegerSorts.{of_sorts}
-use Rattle.set_answers.proofs.SolvingWords.{WholeVector, whole_vector, length-scale, scaled}
+use Rattle.set_answers.proofs.SolvingWords.{whole_vector, length-scale, scaled}
 
 -- ---- one fraction
 no_rest : (b m : ℕ) → b ∣ (m * 1) → m < b → m ≡ 0

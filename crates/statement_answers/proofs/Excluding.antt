@@ -1,6 +1,5 @@
 -- A statement that can be answered has no cause for a refusal, and no statement has two. The laws of the crates below are given.
 use Rattle.std.proofs.Common.{◌≡◌, ℕ, ◌+◌, ◌≤◌, ◌<◌, List, [], ◌∷◌, length, arith, refl, sym, ap, ap₂, ◌∙◌, subst, false, Option, Some, None}
-use Rattle.std.specs.List.{slice_get}
 use Rattle.parser_laws.proofs.Parts.{same_some, not_none}
 use Rattle.lash_model.specs.Formulas.{Sort, Formula}
 use Rattle.lash_model.specs.Tables.{Table}
@@ -24,7 +23,7 @@ use Rattle.script_meaning.specs.declared.limits.Which.{Which}
 use Rattle.script_meaning.specs.declared.limits.Which.TheVariants as limit
 use Rattle.statement_meaning.specs.Asking.{Asked, Show, Set, Print, Solve, Test, Equal, Subset, Check, Loop}
 use Rattle.statement_answers.specs.Automata.{cells_of, IsAnswer}
-use Rattle.statement_answers.specs.Keeping.{kept_cells_limit, cells_of_all, HaveAutomata, OfKept, OfTwo}
+use Rattle.statement_answers.specs.Keeping.{kept_cells_limit, cells_of_all, HaveAutomata, OfTwo}
 use Rattle.statement_answers.specs.Loops.{pairs_of, HasPairs, ClosurePasses, IsClosurePassed}
 use Rattle.statement_answers.specs.Pieces.{ArePaired, AreHeavyPairs, IsKeptWith, IsPieceOf, IsHeavyAsked, IsTooMuch, IsPowerless, IsPassedByClosure, IsAnswerable, IsUnanswered}
 use Rattle.statement_answers.specs.declared.settings.Settings.{Settings}

@@ -1,5 +1,5 @@
 -- The pairs of a loop as a set that is kept.
-use Rattle.std.proofs.Common.{◌≡◌, ℕ, zero, suc, ◌+◌, ◌*◌, ◌≤◌, ◌<◌, ◌^◌, List, [], length, arith, refl, sym, ap, ◌∙◌, subst, None, Some, nat_lt}
+use Rattle.std.proofs.Common.{◌≡◌, ℕ, zero, suc, ◌+◌, ◌≤◌, ◌^◌, List, length, arith, sym, ap, ◌∙◌, subst, None, nat_lt}
 use Rattle.std.specs.Prelude.{Result, Ok, Err, true, false}
 use Rattle.std.proofs.Math.Nat.{pow-le-pow_left}
 use Rattle.std.proofs.lemmas.Bool.{ltb-false}
@@ -10,7 +10,6 @@ use Rattle.formula_core.specs.Variables.{sorts_of}
 use Rattle.term_substitution.specs.Conditions.{IsOver, variables_limit}
 use Rattle.term_substitution.specs.Limits.{first_passed, nodes_limit, depth_limit}
 use Rattle.term_substitution.specs.declared.errors.FormError.TheVariants as form
-use Rattle.matrix_powers.specs.Powers.{IsLeastPower}
 use Rattle.matrix_powers.proofs.Trying.{least_is_found}
 use Rattle.loop_laws.specs.Turns.{Body}
 use Rattle.loop_laws.specs.Closures.{closure_of, count_place}
@@ -24,7 +23,7 @@ use Rattle.set_answers.specs.Sorts.{AreIntegers}
 use Rattle.set_compile.specs.Conditions.{IsOver as Over, BindsIntegers}
 use Rattle.statement_answers.specs.Automata.{IsGiven, IsOfIntegers}
 use Rattle.statement_answers.specs.declared.settings.Settings.{Settings}
-use Rattle.statement_answers.specs.Loops.{closed_at, pairs_of, HasPairs, IsClosurePassed, IsFitLoop, IsPairing, IsUnpaired, unclosed_of}
+use Rattle.statement_answers.specs.Loops.{closed_at, pairs_of, IsClosurePassed, IsFitLoop, IsPairing, IsUnpaired, unclosed_of}
 use Rattle.statement_answers.specs.Pieces.{KeepsSilent}
 use Rattle.statement_answers.specs.declared.errors.Unanswered.{Unanswered}
 use Rattle.statement_answers.specs.declared.errors.Unanswered.TheVariants.{Heavy, NoPower, Closure, KeptCells, Fault, Memory}

@@ -6,11 +6,9 @@ use Rattle.std.proofs.lemmas.Bool.{true≢false}
 use Rattle.std.proofs.lemmas.List.{length-map}
 use Rattle.lash_model.specs.Formulas.{Sort, Int, Formula}
 use Rattle.lash_model.specs.Meaning.{Solves}
-use Rattle.lash_model.specs.Tables.{Table, IsDiagram}
+use Rattle.lash_model.specs.Tables.{Table}
 use Rattle.lash_model.specs.Standing.{StandsFor, all_int}
 use Rattle.automaton_texts.specs.Text.{text_of}
-use Rattle.lash_io.specs.Faults.{IsFaultCounted}
-use Rattle.lash_io.specs.Sinks.{Holds, HoldsPart}
 use Rattle.formula_core.specs.Variables.{sorts_of}
 use Rattle.canon_text.specs.Heading.{HeadsTable}
 use Rattle.canon_text.specs.declared.header.Header.{Header}

@@ -1,14 +1,14 @@
 -- What is held of the kept sets, place by place.
-use Rattle.std.proofs.Common.{◌≡◌, ℕ, zero, suc, ◌+◌, ◌≤◌, ◌<◌, List, [], ◌∷◌, ◌++◌, length, map, get_or, arith, refl, sym, ap, ap₂, ◌∙◌, subst, Some, None}
+use Rattle.std.proofs.Common.{◌≡◌, ℕ, zero, suc, ◌+◌, ◌≤◌, ◌<◌, List, [], ◌∷◌, ◌++◌, length, map, get_or, arith, refl, sym, ap, ap₂, ◌∙◌, subst, Some}
 use Rattle.std.specs.List.{All, slice_get}
-use Rattle.std.proofs.lemmas.List.{length-append, length-map, map-append}
+use Rattle.std.proofs.lemmas.List.{map-append}
 use Rattle.parser_laws.proofs.Parts.{same_some, not_none}
 use Rattle.lash_model.specs.Tables.{Table}
 use Rattle.canon_text.specs.declared.header.Header.{Header}
 use Rattle.script_names.specs.Kept.{KeptSet, sets_of}
 use Rattle.script_names.specs.declared.kept.Definition.{Definition}
-use Rattle.statement_answers.specs.Automata.{IsGiven, IsAnswer, cells_of}
-use Rattle.statement_answers.specs.Keeping.{cells_of_all, HaveAutomata, IsHeld, AreHeld, cells_held, pair_of, Library, IsLibrary, kept_cells_limit}
+use Rattle.statement_answers.specs.Automata.{IsGiven, cells_of}
+use Rattle.statement_answers.specs.Keeping.{cells_of_all, HaveAutomata, IsHeld, AreHeld, cells_held, pair_of, IsLibrary, kept_cells_limit}
 use Rattle.statement_answers.specs.declared.library.Held.{Held}
 use Rattle.statement_answers.specs.declared.settings.Settings.{Settings}
 

@@ -1,5 +1,5 @@
 -- Kept sets beside their automata. Own.
-use Rattle.std.specs.Prelude.{ℕ, ◌+◌, ◌≡◌, ◌≤◌, List, [], ◌∷◌, ◌++◌, map, slice_get, Some}
+use Rattle.std.specs.Prelude.{ℕ, ◌+◌, ◌≡◌, ◌≤◌, List, [], ◌∷◌, ◌++◌, slice_get, Some}
 use Rattle.lash_model.specs.Tables.{Table}
 use Rattle.canon_text.specs.declared.header.Header.{Header}
 use Rattle.script_names.specs.Kept.{KeptSet, sets_of}

@@ -1,5 +1,5 @@
 -- What is written for a statement, by its meaning. Own.
-use Rattle.std.specs.Prelude.{ℕ, ◌+◌, ◌<◌, ◌≤◌, ◌≡◌, ◌⊎◌, List, [], ◌∷◌, All, length, codes, Bool, true, false, Option, None, Result, Ok, Err, ℤ}
+use Rattle.std.specs.Prelude.{ℕ, ◌+◌, ◌<◌, ◌≤◌, ◌≡◌, ◌⊎◌, List, [], All, length, codes, Bool, true, false, Option, None, Result, Ok, Err, ℤ}
 use Rattle.lash_io.specs.Faults.{IsFaultCounted}
 use Rattle.lash_model.specs.Formulas.{Sort, Formula}
 use Rattle.lash_model.specs.Meaning.{Solves}

@@ -1,4 +1,4 @@
-use Rattle.lash_command.proofs.Endings.{Laws, good_scripts_end}
+use Rattle.lash_command.proofs.Endings.{good_scripts_end}
 use Rattle.lash_command.proofs.laws.good_scripts_finish.Goals as goal
 
 pub returns : goal.returns

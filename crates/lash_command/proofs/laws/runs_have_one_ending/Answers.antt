@@ -1,4 +1,4 @@
-use Rattle.lash_command.proofs.Endings.{Laws, runs_end_alike}
+use Rattle.lash_command.proofs.Endings.{runs_end_alike}
 use Rattle.lash_command.proofs.laws.runs_have_one_ending.Goals as goal
 
 pub returns : goal.returns

@@ -1,4 +1,4 @@
-use Rattle.std.proofs.Common.{arith, ◌∙◌, sym, ap, subst, []}
+use Rattle.std.proofs.Common.{arith, sym, ap, subst, []}
 use Rattle.script_parse.specs.Answers.{State}
 use Rattle.statement_answers.specs.Automata.{AreOfIntegers}
 use Rattle.statement_answers.specs.Keeping.{Library, sets_kept}

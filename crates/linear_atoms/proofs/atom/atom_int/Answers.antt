@@ -1,6 +1,5 @@
-use Rattle.std.proofs.Common.{rules, arith, ◌≡◌, ◌≤◌, ◌<◌, ◌+◌, List, ap, ◌∙◌, sym, subst, length}
+use Rattle.std.proofs.Common.{rules, arith, ◌≡◌, ◌+◌, List, sym, subst, length}
 use Rattle.std.proofs.Math.IntN.{ℤ}
-use Rattle.lash_model.specs.Formulas.{Linear}
 use Rattle.threshold_laws.specs.Thresholds.{seeds, AreThresholds}
 use Rattle.threshold_laws.proofs.AtomTables.{some_threshold}
 use Rattle.linear_atoms.specs.Kinds.{comparison_of}

@@ -1,6 +1,6 @@
 use Rattle.std.proofs.Common.{rules, arith, ◌≡◌, ◌≤◌, ◌<◌, ◌+◌, ◌*◌, ◌^◌, List, ap, ap₂, ◌∙◌, sym, subst, length}
 use Rattle.std.proofs.Math.IntN.{ℤ}
-use Rattle.lash_model.specs.Formulas.{Linear, Comparison}
+use Rattle.lash_model.specs.Formulas.{Linear}
 use Rattle.threshold_laws.specs.Thresholds.{AreThresholds, atom_cells}
 use Rattle.lasso_laws.specs.Windows.{window, window_seeds}
 use Rattle.lasso_laws.specs.RealAtoms.{bound_states}
@@ -8,7 +8,7 @@ use Rattle.lasso_laws.proofs.RealAtomTables.{real_atom_stands, real_atom_weak}
 use Rattle.linear_atoms.specs.Kinds.{comparison_of}
 use Rattle.linear_atoms.specs.Closing.{entry, IsOverfull}
 use Rattle.linear_atoms.specs.Filling.{IsPlan}
-use Rattle.linear_atoms.specs.Bounds.{IsWindow, IsBoundPlan, AreBoundsFilled}
+use Rattle.linear_atoms.specs.Bounds.{IsWindow, AreBoundsFilled}
 use Rattle.linear_atoms.proofs.Finishing.{too_many, few_cells}
 use Rattle.linear_atoms.proofs.BoundFilling.{some_seed, real_atom_table, seeds_overfull}
 use Rattle.linear_atoms.proofs.real.atom_real.Goals as goal

@@ -1,8 +1,6 @@
-use Rattle.std.proofs.Common.{rules, ◌≡◌, ◌+◌}
-use Rattle.std.proofs.Math.IntN.{ℤ, pos, ◌+ℤ◌, ◌-ℤ◌}
+use Rattle.std.proofs.Common.{rules}
 use mir.Syntax.{w128}
 use mir.Val.{to_z, of_z}
-use Rattle.lasso_laws.specs.Windows.{window_end}
 use Rattle.linear_atoms.specs.Kinds.{comparison_of}
 use Rattle.linear_atoms.proofs.WindowSums.{seed_small}
 use Rattle.linear_atoms.proofs.real.seed_at.Goals as goal

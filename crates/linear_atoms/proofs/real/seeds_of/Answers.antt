@@ -1,5 +1,4 @@
-use Rattle.std.proofs.Common.{rules, ◌≡◌, ◌+◌, List, ◌++◌, [], ◌∷◌, sym, subst}
-use Rattle.std.proofs.Math.IntN.{ℤ}
+use Rattle.std.proofs.Common.{rules, ◌≡◌, ◌+◌, ◌++◌, [], ◌∷◌, sym, subst}
 use Rattle.linear_atoms.specs.Kinds.{comparison_of}
 use Rattle.linear_atoms.specs.Bounds.{AreSeeds}
 use Rattle.linear_atoms.proofs.WindowSums.{seeds_none, seeds_more}

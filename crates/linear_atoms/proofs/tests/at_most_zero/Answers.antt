@@ -1,6 +1,6 @@
-use Rattle.std.proofs.Common.{◌≡◌, ℕ, List, [], ◌∷◌, arith, subst, sym}
-use Rattle.std.proofs.Math.IntN.{ℤ, pos}
-use Rattle.lash_model.specs.Formulas.{Linear, IsInside, coefficient_sum}
+use Rattle.std.proofs.Common.{[], ◌∷◌, arith, subst, sym}
+use Rattle.std.proofs.Math.IntN.{pos}
+use Rattle.lash_model.specs.Formulas.{IsInside, coefficient_sum}
 use Rattle.linear_atoms.proofs.tests.at_most_zero.Goals as goal
 
 small : IsInside (record { terms = (0, pos 1) ∷ []; constant = pos 0 })

@@ -1,5 +1,4 @@
-use Rattle.std.proofs.Common.{arith, ◌≡◌, ◌*◌, ◌^◌, ap, ◌∙◌, sym, subst}
-use Rattle.lash_model.specs.Tables.{Table, letters}
+use Rattle.std.proofs.Common.{arith, subst}
 use Rattle.lasso_laws.proofs.WholeTables.{whole_stands, whole_weak}
 use Rattle.part_laws.specs.Graphs.{IsWeak}
 use Rattle.part_laws.specs.CanonicalMixed.{fraction_graph}

@@ -1,4 +1,4 @@
-use Rattle.std.proofs.Common.{rules, arith, ◌≡◌, ◌∙◌, ◌+◌, ◌<◌, ◌≤◌, ℕ, ℤ, List, length, ap, sym, subst, unsigned_abs, to_z}
+use Rattle.std.proofs.Common.{rules, arith, ◌≡◌, ◌∙◌, ◌+◌, ◌<◌, ℕ, ℤ, List, length, ap, sym, subst, unsigned_abs, to_z}
 use Rattle.std.proofs.Math.IntN.{pos, ◌+ℤ◌}
 use mir.Syntax.{w128}
 use mir.Val.{SFits}

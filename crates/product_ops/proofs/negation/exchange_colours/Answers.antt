@@ -1,4 +1,4 @@
-use Rattle.std.proofs.Common.{rules, arith, ◌≡◌, ◌<◌, ◌∙◌, length}
+use Rattle.std.proofs.Common.{arith, ◌≡◌, ◌<◌, ◌∙◌, length}
 use Rattle.product_ops.proofs.Exchanging.{one_recoloured, all_recoloured}
 use Rattle.product_ops.proofs.negation.exchange_colours.Goals as goal
 

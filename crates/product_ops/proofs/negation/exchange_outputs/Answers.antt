@@ -1,4 +1,4 @@
-use Rattle.std.proofs.Common.{rules, arith, ◌≡◌, ◌-◌, ◌<◌, ◌∙◌, ap, sym, length, slice_index}
+use Rattle.std.proofs.Common.{arith, ◌≡◌, ◌-◌, ◌<◌, ◌∙◌, ap, length}
 use Rattle.product_ops.proofs.Exchanging.{one_changed, all_kept}
 use Rattle.product_ops.proofs.negation.exchange_outputs.Goals as goal
 

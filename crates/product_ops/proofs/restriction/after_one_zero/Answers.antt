@@ -1,4 +1,4 @@
-use Rattle.std.proofs.Common.{rules, arith, ◌≡◌, ◌+◌, ◌*◌, ◌<◌, ◌∙◌, [], sym, subst, length, slice_index}
+use Rattle.std.proofs.Common.{rules, arith, ◌≡◌, ◌+◌, [], sym, subst}
 use Rattle.lash_model.specs.Tables.{letters, fracs}
 use Rattle.product_ops.specs.Restriction.{AreFirstEnds}
 use Rattle.product_ops.proofs.Doubling.{none_found, one_found, all_found}

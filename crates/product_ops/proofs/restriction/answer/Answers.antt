@@ -1,6 +1,5 @@
-use Rattle.std.proofs.Common.{rules, arith, ◌≡◌, ◌<◌, refl, slice_index}
+use Rattle.std.proofs.Common.{rules, refl, slice_index}
 use Rattle.part_laws.proofs.LassoWords.{fraction_is_graph}
-use Rattle.product_ops.specs.Restriction.{colour_of_zeros}
 use Rattle.product_ops.proofs.Zeros.{end_colour, one_if_yes, zero_if_no}
 use Rattle.product_ops.proofs.restriction.answer.Goals as goal
 

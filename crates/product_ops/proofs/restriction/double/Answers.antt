@@ -1,4 +1,4 @@
-use Rattle.std.proofs.Common.{rules, arith, refl, ◌≡◌, ◌∙◌, ◌<◌, ◌+◌, length, slice_index, subst}
+use Rattle.std.proofs.Common.{arith, refl, ◌∙◌, ◌<◌, length, slice_index}
 use Rattle.product_ops.proofs.Doubling.{none_doubled, one_doubled, all_doubled, count_doubled, inside_doubled}
 use Rattle.product_ops.proofs.restriction.double.Goals as goal
 

@@ -1,4 +1,4 @@
-use Rattle.std.proofs.Common.{rules, arith, ◌≡◌, ◌*◌, ◌∙◌, ap, sym, subst, length}
+use Rattle.std.proofs.Common.{arith, ◌≡◌, ◌*◌, ◌∙◌, ap, sym, subst, length}
 use Rattle.std.proofs.lemmas.List.{take_at}
 use Rattle.lash_model.specs.Tables.{letters}
 use Rattle.product_ops.specs.Restriction.{AreEnds}

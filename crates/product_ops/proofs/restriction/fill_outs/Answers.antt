@@ -1,6 +1,6 @@
 use Rattle.std.proofs.Common.{rules, ◌<◌, ◌∙◌, ◌*◌, ◌^◌}
 use Rattle.lash_model.specs.Tables.{ints, letters}
-use Rattle.product_ops.proofs.Copying.{output_filled, all_filled}
+use Rattle.product_ops.proofs.Copying.{output_filled}
 use Rattle.product_ops.proofs.restriction.fill_outs.Goals as goal
 
 pub loop-state-preserved : goal.loop-state-preserved

@@ -1,4 +1,4 @@
-use Rattle.std.proofs.Common.{rules, ◌≡◌, ◌∙◌, ap, sym, subst}
+use Rattle.std.proofs.Common.{rules, ◌≡◌, ◌∙◌, sym, subst}
 use Rattle.lash_model.specs.Sets.{set_of}
 use Rattle.lash_model.specs.Standing.{StandsForWhole}
 use Rattle.lash_model.proofs.FractionSets.{set_of_fractions}

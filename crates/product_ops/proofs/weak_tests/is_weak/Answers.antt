@@ -1,4 +1,4 @@
-use Rattle.std.proofs.Common.{rules, arith, ◌≡◌, IsTrue, length}
+use Rattle.std.proofs.Common.{rules, ◌≡◌, IsTrue}
 use Rattle.lash_model.specs.Tables.{letters, fracs}
 use Rattle.part_laws.specs.CanonicalMixed.{fraction_graph}
 use Rattle.product_ops.proofs.Sinks.{weak_by_sinks}

@@ -1,5 +1,4 @@
 -- The tables are equal exactly where the sets agree.
-use Rattle.std.specs.Prelude.{◌↔◌}
 use Rattle.set_answers.proofs.Agreeing.{tables_agree}
 use Rattle.set_answers.proofs.agreement.equal.Goals as goal
 

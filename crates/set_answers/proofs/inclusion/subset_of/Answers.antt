@@ -1,6 +1,5 @@
 -- The table of the pairs is that of the difference over all tracks.
-use Rattle.std.proofs.Common.{ap, sym, ◌∙◌, ℤ, List, length, subst}
-use Rattle.std.specs.List.{range_with_len}
+use Rattle.std.proofs.Common.{ap, ◌∙◌, length}
 use Rattle.std.proofs.lemmas.List.FromFn.{length-range_with_len}
 use Rattle.product_ops.specs.Tracks.{TrackLists}
 use Rattle.set_answers.proofs.Including.{subset_is}

@@ -1,12 +1,9 @@
-use Rattle.std.proofs.Common.{◌≡◌, length, subst, sym}
-use Rattle.std.specs.Prelude.{Err}
+use Rattle.std.proofs.Common.{◌≡◌, length, subst}
 use Rattle.formula_core.specs.Shape.{formula_of}
-use Rattle.statement_meaning.specs.Asking.{Set}
 use Rattle.statement_answers.specs.Keeping.{sets_kept}
 use Rattle.set_compile.specs.Steps.{IsRefused}
 use Rattle.set_compile.specs.declared.errors.CompileError.TheVariants.{Heavy as TooHeavy}
 use Rattle.statement_answers.specs.Automata.{IsAnswer}
-use Rattle.statement_answers.specs.Pieces.{KeepsSilent}
 use Rattle.statement_answers.specs.declared.settings.Settings.{Settings}
 use Rattle.statement_answers.proofs.Saying.{unbuilt_silent, put_silent}
 use Rattle.statement_answers.proofs.answering.keep.Goals as goal

@@ -5,7 +5,7 @@ use Rattle.std.proofs.lemmas.List.{length-map}
 use Rattle.script_names.specs.Kept.{set_of}
 use Rattle.statement_answers.specs.Keeping.{sets_kept}
 use Rattle.statement_answers.proofs.Shelving.{here}
-use Rattle.statement_answers.proofs.Saying.{heads, solved_as}
+use Rattle.statement_answers.proofs.Saying.{solved_as}
 use Rattle.statement_answers.proofs.answering.solve.Goals as goal
 
 pub write_solution-requires-clause-base : goal.write_solution-requires-clause-base

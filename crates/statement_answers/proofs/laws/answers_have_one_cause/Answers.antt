@@ -1,4 +1,4 @@
-use Rattle.statement_answers.proofs.Excluding.{Laws, not_unanswered, one_cause, piece_answerable}
+use Rattle.statement_answers.proofs.Excluding.{not_unanswered, one_cause, piece_answerable}
 use Rattle.statement_answers.proofs.laws.answers_have_one_cause.Goals as goal
 
 pub returns-clause-answered : goal.returns-clause-answered
