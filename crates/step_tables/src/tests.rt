@@ -12,6 +12,8 @@ use std::alloc::Global;
 use std::process::Abort;
 use std::test::Fail;
 
+mod rows;
+
 const LEFT: [u32; 10] = [0, 2, 1, 1, 3, 3, 4, 4, 4, 4];
 
 const RIGHT: [u32; 4] = [0, 0, 1, 1];
