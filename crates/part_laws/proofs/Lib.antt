@@ -19,3 +19,4 @@ pub mod Opposites
 pub mod MixedPairs
 pub mod Everything
 pub mod PairExploring
+pub mod BothKinds

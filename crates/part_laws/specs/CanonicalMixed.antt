@@ -1,9 +1,9 @@
 -- Canonical tables with fraction states (own numbering; the canonical weak automata are those of Löding 2001).
-use Rattle.std.specs.Prelude.{ℕ, ◌<◌, ◌≡◌, ◌↔◌, List, [], ◌∷◌, ℤ}
+use Rattle.std.specs.Prelude.{ℕ, ◌<◌, ◌≡◌, ◌⊎◌, ◌↔◌, List, [], ◌∷◌, ℤ}
 use Rattle.lash_model.specs.Lassos.{Lasso, IsLasso, denominator, numerators}
 use Rattle.lash_model.specs.Tables.{Table, letters, ints, fracs, IsTable}
 use Rattle.lash_model.specs.Acceptance.{accepts_lasso}
-use Rattle.canonical_laws.specs.Canonical.{IsNumbered, IsSeparated}
+use Rattle.canonical_laws.specs.Canonical.{IsNumbered, IsSeparated, IsCanonical}
 use Rattle.part_laws.specs.Graphs.{Graph, IsWeak}
 use Rattle.part_laws.specs.Ranks.{IsByRank}
 
@@ -23,6 +23,10 @@ pub record IsCanonicalMixed (t : Table) : Type 0 where
   pub fraction_separated : IsSeparated t.frac_rows (letters t) t.colours
   pub weak : IsWeak (letters t) (fraction_graph t)
   pub by_rank : IsByRank (letters t) (fraction_graph t)
+
+-- a table of either kind is canonical: a diagram, or a table with fraction states
+abbrev pub IsCanonicalTable : Table → Type 0
+IsCanonicalTable t = IsCanonical t ⊎ IsCanonicalMixed t
 
 -- the two tables accept the same lassos, of the base and the tracks of the first
 abbrev pub AcceptSameLassos : Table → Table → Type 0
