@@ -1,0 +1,10 @@
+pub mod Beginning
+pub mod Closing
+pub mod Ending
+pub mod Following
+pub mod Looping
+pub mod Marking
+pub mod Numbering
+pub mod Readying
+pub mod Seeing
+pub mod Totals
