@@ -1,10 +1,15 @@
 pub mod Beginning
 pub mod Closing
+pub mod Colouring
 pub mod Ending
 pub mod Following
+pub mod Lifting
+pub mod Lifts
 pub mod Looping
 pub mod Marking
 pub mod Numbering
 pub mod Readying
+pub mod Reckoning
 pub mod Seeing
 pub mod Totals
+pub mod Weakness

@@ -1,2 +1,3 @@
 pub mod Partings
+pub mod Rankings
 pub mod Walking

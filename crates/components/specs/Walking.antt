@@ -19,6 +19,7 @@ pub record Layout : Type 0 where
   pub count : ℕ
   pub done : ℕ
 
+-- those of the program's walk
 abbrev pub layout : Walk → Layout
 layout w = record {
   part = w.part.items;
@@ -59,16 +60,17 @@ shorter x from part finished done = record x {
   done = done;
 }
 
--- the sum
+-- the sum of a list
 abbrev pub total : List ℕ → ℕ
 total [] = 0
 total (x ∷ xs) = x + total xs
 
--- how many are not below a number
+-- 0 for yes, 1 for no
 abbrev pub one_unless : Bool → ℕ
 one_unless true = 0
 one_unless false = 1
 
+-- how many entries are not below n: the places of states that were not seen
 abbrev pub fresh : ℕ → List ℕ → ℕ
 fresh n [] = 0
 fresh n (x ∷ xs) = one_unless (nat_lt x n) + fresh n xs
@@ -90,6 +92,7 @@ IsNotLower bounds groups place p q = (g : ℕ) → g < groups → slice_index bo
 abbrev pub AreSteps : ℕ → List ℕ → ℕ → Type 0
 AreSteps n rows width = (q l : ℕ) → q < n → l < width → slice_index rows (q * width + l) < n
 
+-- each list has an entry for each state, and 32 bits tell the states apart
 pub record AreSized (n : ℕ) (x : Layout) : Type 0 where
   pub part : length x.part ≡ n
   pub place : length x.place ≡ n
@@ -162,6 +165,7 @@ pub record AreListed (n : ℕ) (part finished : List ℕ) (done : ℕ) : Type 0 
   pub rising : (j k : ℕ) → j < k → k < done → slice_index part (slice_index finished j) ≤ slice_index part (slice_index finished k)
   pub all : (q : ℕ) → q < n → slice_index part q < n → (k : ℕ) × (k < done) × (slice_index finished k ≡ q)
 
+-- what holds between two steps of the walk
 pub record IsWalk (n : ℕ) (rows : List ℕ) (width : ℕ) (x : Layout) : Type 0 where
   pub sized : AreSized n x
   pub counted : AreCounted n x.place x.held x.groups x.depth x.count x.done

@@ -1,10 +1,10 @@
-//! Small graphs whose parts are found by hand, and the fraction states of the table of `x <= 0` over a real in base 2.
+//! Small graphs whose parts and ranks are found by hand, and the fraction states of the table of `x <= 0` over a real in base 2.
 
 ghost use Rattle.std.specs.Prelude.{◌≡◌, ◌*◌, ◌<◌, length, All, IfOk};
 ghost use Rattle.lash_model.specs.Tables.{fracs};
 ghost use Rattle.step_tables.specs.Kept.{wide};
 
-use crate::{Parts, components, frac_rows_of, parts_of};
+use crate::{Parts, components, frac_rows_of, is_weak, parts_of, rank_colours, ranks_of};
 use digit_codes::Base;
 use lash_io::Memory;
 use packed_cells::Plain;
@@ -44,6 +44,30 @@ fn are_parts(
     Ok(have_numbers(&found, numbers, looping))
 }
 
+// Whether the graph is weak, and its states have these ranks and by them these colours.
+fn are_ranks(
+    alloc: Global,
+    rows: &[u32],
+    letters: u32,
+    colours: &[u32],
+    ranks: &[u32],
+    by_rank: &[u32],
+) -> Result<bool, Memory>
+    requires rows { length rows.now ≡ length colours.now * letters }
+    requires targets { All (λ q. q < length colours.now) rows.now }
+    requires letters { 0 < letters }
+    requires few { length colours.now < 64 }
+    requires colours { All (λ c. c < 2) colours.now }
+{
+    let found = parts_of(alloc, rows, letters, colours.len() as u32)?;
+    if !is_weak(colours, &found) {
+        return Ok(false);
+    }
+    let numbers = ranks_of(alloc, rows, letters, colours, &found)?;
+    let changed = rank_colours(alloc, rows, letters, colours, &found)?;
+    Ok(numbers.as_slice() == ranks && changed.as_slice() == by_rank)
+}
+
 // Gives a fraction state its two targets.
 fn set_targets(rt: &impl Abort, table: &mut Table<Plain>, state: u32, zero: u32, one: u32)
     requires { table.old.bounds ≡ wide }
@@ -80,6 +104,84 @@ fn check_table(rt: &impl Abort, alloc: Global, base: Base) -> Result<(), Fail>
     assert_eq!(rt; rows.as_slice(), [0, 2, 1, 1, 2, 2].as_slice());
     let found = components(alloc, &table)?;
     assert!(rt; have_numbers(&found, [1, 2, 0].as_slice(), [true, true, true].as_slice()));
+    Ok(())
+}
+
+fn check_ranks(rt: &impl Abort, alloc: Global) -> Result<(), Fail> {
+    // 0 and 1 go to each other with colour no, and 2 goes to 3, which goes to itself with colour yes.
+    let rows = [1, 0, 3, 3];
+    let ranks = [1, 1, 0, 0];
+    assert!(rt;
+        are_ranks(
+            alloc,
+            rows.as_slice(),
+            1,
+            [0, 0, 0, 1].as_slice(),
+            ranks.as_slice(),
+            [0, 0, 1, 1].as_slice()
+        )?
+    );
+    // If 0 has colour yes, the graph is not weak.
+    assert!(rt;
+        !are_ranks(
+            alloc,
+            rows.as_slice(),
+            1,
+            [1, 0, 0, 1].as_slice(),
+            ranks.as_slice(),
+            [0, 0, 1, 1].as_slice()
+        )?
+    );
+    // Four loops, each reached from the one before, of alternating colours; then the first three have one colour.
+    let rows = [0, 1, 1, 2, 2, 3, 3, 3];
+    let colours = [1, 0, 1, 0];
+    assert!(rt;
+        are_ranks(
+            alloc,
+            rows.as_slice(),
+            2,
+            colours.as_slice(),
+            [4, 3, 2, 1].as_slice(),
+            colours.as_slice()
+        )?
+    );
+    let colours = [0, 0, 0, 1];
+    assert!(rt;
+        are_ranks(
+            alloc,
+            rows.as_slice(),
+            2,
+            colours.as_slice(),
+            [1, 1, 1, 0].as_slice(),
+            colours.as_slice()
+        )?
+    );
+    // States 0 and 1 lie on no loop, so they take the colour of their rank.
+    let rows = [1, 2, 3, 3, 2, 2, 3, 3];
+    let ranks = [1, 1, 0, 1];
+    assert!(rt;
+        are_ranks(
+            alloc,
+            rows.as_slice(),
+            2,
+            [0, 1, 1, 0].as_slice(),
+            ranks.as_slice(),
+            [0, 0, 1, 0].as_slice()
+        )?
+    );
+    // The fraction states of x <= 0.
+    let rows = [0, 2, 1, 1, 2, 2];
+    let colours = [1, 1, 0];
+    assert!(rt;
+        are_ranks(
+            alloc,
+            rows.as_slice(),
+            2,
+            colours.as_slice(),
+            [2, 0, 1].as_slice(),
+            colours.as_slice()
+        )?
+    );
     Ok(())
 }
 
@@ -133,6 +235,7 @@ fn graphs(rt: HostRuntime) -> Result<(), Fail> {
             loops.as_slice()
         )?
     );
+    check_ranks(&rt, alloc)?;
     let two = Base::new(2).ok_or("2 is a base")?;
     check_table(&rt, alloc, two)
 }
