@@ -18,8 +18,8 @@ use Rattle.canonical_laws.specs.Behaviour.{Behaves}
 use Rattle.canonical_laws.specs.Canonical.{IsPathOf, walked, IsNumbered, IsSeparated, IsCanonical, AcceptSameWords}
 use Rattle.canonical_laws.proofs.Diagrams.{out_below}
 use Rattle.step_tables.specs.Kept.{answered, laid}
-use Rattle.weak_min.specs.Quotients.{Classed, IsClassed, class_key, quotient, class_says}
-use Rattle.weak_min.proofs.ClassRuns.{go_in, root_in, class_in, led_class, class_out, walked_in, after_class}
+use Rattle.weak_min.specs.Quotients.{Classed, IsClassed, classing, quotient, all_cells, class_says}
+use Rattle.weak_min.proofs.ClassRuns.{class_key, go_in, root_in, class_in, led_class, class_out, walked_in, after_class}
 
 abbrev bit : Bool → ℕ
 bit b = if b then 1 else 0
@@ -27,11 +27,11 @@ bit b = if b then 1 else 0
 -- ---- what was explored, and outputs for its positions
 record Made (c : Classed) (k : KeyTable) (outs : List ℕ) : Type 0 where
   pub classed : IsClassed c
-  pub explored : IsExplored (quotient c) 16777216 k
-  pub outs_are : outs ≡ answered (class_says c.table) k.keys
+  pub explored : IsExplored (quotient (classing c)) (all_cells (classing c)) k
+  pub outs_are : outs ≡ answered (class_says c.table.outs) k.keys
 
 counted : (c : Classed) (k : KeyTable) (outs : List ℕ) → Made c k outs → length outs ≡ length k.keys
-counted c k outs m = ap length m.outs_are ∙ length-map k.keys (λ x. bit (class_says c.table x))
+counted c k outs m = ap length m.outs_are ∙ length-map k.keys (λ x. bit (class_says c.table.outs x))
 
 -- the position after a path, by the letters of the diagram
 at_width : (c : Classed) (k : KeyTable) (outs : List ℕ) → Made c k outs → (p : Path) → position k p ≡ walked k.starts k.rows (letters c.table) p
@@ -46,7 +46,7 @@ record HasState (c : Classed) (k : KeyTable) (i : ℕ) : Type 0 where
 state_at : (c : Classed) (k : KeyTable) (outs : List ℕ) → Made c k outs → (i : ℕ) → i < length k.keys → HasState c k i
 unfolding table_reached
 state_at c k outs m i lt =
-    let r = table_reached (quotient c) 16777216 k m.explored i [] lt in
+    let r = table_reached (quotient (classing c)) (all_cells (classing c)) k m.explored i [] lt in
     record {
       state = walked c.table.roots c.table.rows (letters c.table) r.path;
       inside = walked_in c m.classed r.path r.valid;
@@ -56,7 +56,7 @@ state_at c k outs m i lt =
 -- the key after a word
 key_after : (c : Classed) (k : KeyTable) (outs : List ℕ) → Made c k outs → (i q : ℕ) (w : List ℕ) → q < ints c.table → slice_get k.keys i ≡ Some (class_key c.classes q) → AllByRecursion (λ l. l < letters c.table) w → slice_get k.keys (go k.rows (letters c.table) i w) ≡ Some (class_key c.classes (go c.table.rows (letters c.table) q w))
 key_after c k outs m i q w q_in e a = ap (λ n. slice_get k.keys (go k.rows n i w)) (sym m.explored.width)
-    ∙ positions_follow (quotient c) 16777216 k m.explored i (class_key c.classes q) w (subst (λ n. AllByRecursion (λ l. l < n) w) (sym m.explored.width) a) e
+    ∙ positions_follow (quotient (classing c)) (all_cells (classing c)) k m.explored i (class_key c.classes q) w (subst (λ n. AllByRecursion (λ l. l < n) w) (sym m.explored.width) a) e
     ∙ ap (λ x. Some x) (led_class c m.classed q w q_in a)
 
 -- the output at a position
@@ -67,8 +67,8 @@ bit_back (suc (suc x)) h = absurd (omega (arith, h))
 
 out_at : (c : Classed) (k : KeyTable) (outs : List ℕ) → Made c k outs → (i q : ℕ) → q < ints c.table → slice_get k.keys i ≡ Some (class_key c.classes q) → slice_index outs i ≡ slice_index c.table.outs q
 out_at c k outs m i q q_in e = ap (λ xs. slice_index xs i) m.outs_are
-    ∙ get_or-map (λ x. bit (class_says c.table x)) k.keys i [] 0 (slice_get_within k.keys i (class_key c.classes q) e)
-    ∙ ap (λ x. bit (class_says c.table x)) (get_or_from_slice_get k.keys i (class_key c.classes q) [] e)
+    ∙ get_or-map (λ x. bit (class_says c.table.outs x)) k.keys i [] 0 (slice_get_within k.keys i (class_key c.classes q) e)
+    ∙ ap (λ x. bit (class_says c.table.outs x)) (get_or_from_slice_get k.keys i (class_key c.classes q) [] e)
     ∙ bit_back (slice_index c.table.outs (slice_index c.classes q)) (out_below c.table m.classed.table m.classed.diagram (slice_index c.classes q) (class_in c m.classed q q_in))
     ∙ class_out c m.classed q q_in
 
@@ -76,10 +76,10 @@ out_after : (c : Classed) (k : KeyTable) (outs : List ℕ) → Made c k outs →
 out_after c k outs m i q w q_in e a = out_at c k outs m (go k.rows (letters c.table) i w) (go c.table.rows (letters c.table) q w) (go_in c m.classed q w q_in a) (key_after c k outs m i q w q_in e a)
 
 -- ---- numbered by least paths
-listed_path : (c : Classed) (k : KeyTable) (outs : List ℕ) → Made c k outs → (p : Path) → IsPath (quotient c) p → IsPathOf k.starts (letters c.table) p
+listed_path : (c : Classed) (k : KeyTable) (outs : List ℕ) → Made c k outs → (p : Path) → IsPath (quotient (classing c)) p → IsPathOf k.starts (letters c.table) p
 listed_path c k outs m p v = record { start = subst (λ n. p.start < n) (sym m.explored.starts_count) v.start; letters = recursion_from_All (λ l. l < letters c.table) p.word v.letters }
 
-path_back : (c : Classed) (k : KeyTable) (outs : List ℕ) → Made c k outs → (p : Path) → IsPathOf k.starts (letters c.table) p → IsPath (quotient c) p
+path_back : (c : Classed) (k : KeyTable) (outs : List ℕ) → Made c k outs → (p : Path) → IsPathOf k.starts (letters c.table) p → IsPath (quotient (classing c)) p
 path_back c k outs m p v = record { start = subst (λ n. p.start < n) m.explored.starts_count v.start; letters = All-from_recursion (λ l. l < letters c.table) p.word v.letters }
 
 numbered : (c : Classed) (k : KeyTable) (outs : List ℕ) → Made c k outs → IsNumbered k.starts k.rows (letters c.table) (length outs)
@@ -87,13 +87,13 @@ numbered c k outs m = record {
   paths = m.explored.paths;
   count = sym as_long;
   valid = λ i lt. listed_path c k outs m (path_at m.explored.paths i) (m.explored.valid i (start_path 0) (subst (λ n. i < n) as_long lt));
-  leads = λ i lt. sym (at_width c k outs m (path_at m.explored.paths i)) ∙ own_position (quotient c) 16777216 k m.explored i (subst (λ n. i < n) (counted c k outs m) lt);
+  leads = λ i lt. sym (at_width c k outs m (path_at m.explored.paths i)) ∙ own_position (quotient (classing c)) (all_cells (classing c)) k m.explored i (subst (λ n. i < n) (counted c k outs m) lt);
   rising = m.explored.rising;
   least = λ p v. subst (λ s. AtMost (path_at m.explored.paths s) p) (at_width c k outs m p) (m.explored.least p (path_back c k outs m p v));
 }
   where
     as_long : length outs ≡ length m.explored.paths
-    as_long = counted c k outs m ∙ ap length m.explored.reached ∙ length-map m.explored.paths (after (quotient c))
+    as_long = counted c k outs m ∙ ap length m.explored.reached ∙ length-map m.explored.paths (after (quotient (classing c)))
 
 -- ---- no two positions behave alike
 same_place : (ks : List (List ℕ)) (x : List ℕ) (p q : ℕ) → IsDistinct ks → slice_get ks p ≡ Some x → slice_get ks q ≡ Some x → p ≡ q
@@ -118,7 +118,7 @@ separated c k outs m p q p_in q_in b = same_place k.keys (class_key c.classes j.
 start_key : (c : Classed) (k : KeyTable) (outs : List ℕ) → Made c k outs → (j : ℕ) → j < length c.table.roots → slice_get k.keys (slice_index k.starts j) ≡ Some (class_key c.classes (slice_index c.table.roots j))
 start_key c k outs m j lt = m.explored.complete (start_path j) v ∙ ap (λ x. Some x) (after_class c m.classed (start_path j) v)
   where
-    v : IsPath (quotient c) (start_path j)
+    v : IsPath (quotient (classing c)) (start_path j)
     v = record { start = subst (λ n. j < n) (sym (length-map c.table.roots (class_key c.classes))) lt; letters = All-from_recursion (λ l. l < letters c.table) [] tt }
 
 words : (c : Classed) (k : KeyTable) (outs : List ℕ) → Made c k outs → AcceptSameWords c.table (laid c.table.base c.table.tracks k outs)
@@ -131,14 +131,14 @@ canonical_of : (c : Classed) (k : KeyTable) (outs : List ℕ) → Made c k outs 
 canonical_of c k outs m h = record { table = h; diagram = refl; numbered = numbered c k outs m; separated = separated c k outs m }
 
 -- ---- the table
-pub starts_of : (c : Classed) (k : KeyTable) → IsClassed c → IsExplored (quotient c) 16777216 k → length k.starts ≡ 2 ^ c.table.tracks
+pub starts_of : (c : Classed) (k : KeyTable) → IsClassed c → IsExplored (quotient (classing c)) (all_cells (classing c)) k → length k.starts ≡ 2 ^ c.table.tracks
 starts_of c k h e = e.starts_count ∙ length-map c.table.roots (class_key c.classes) ∙ h.table.roots_count
 
-made_of : (c : Classed) (k : KeyTable) → IsClassed c → IsExplored (quotient c) 16777216 k → Made c k (answered (class_says c.table) k.keys)
+made_of : (c : Classed) (k : KeyTable) → IsClassed c → IsExplored (quotient (classing c)) (all_cells (classing c)) k → Made c k (answered (class_says c.table.outs) k.keys)
 made_of c k h e = record { classed = h; explored = e; outs_are = refl }
 
-pub quotient_canonical : (c : Classed) (k : KeyTable) (u : Table) → IsClassed c → IsExplored (quotient c) 16777216 k → IsTable u → u ≡ laid c.table.base c.table.tracks k (answered (class_says c.table) k.keys) → IsCanonical u
-quotient_canonical c k u h e valid is = subst IsCanonical (sym is) (canonical_of c k (answered (class_says c.table) k.keys) (made_of c k h e) (subst IsTable is valid))
+pub quotient_canonical : (c : Classed) (k : KeyTable) (u : Table) → IsClassed c → IsExplored (quotient (classing c)) (all_cells (classing c)) k → IsTable u → u ≡ laid c.table.base c.table.tracks k (answered (class_says c.table.outs) k.keys) → IsCanonical u
+quotient_canonical c k u h e valid is = subst IsCanonical (sym is) (canonical_of c k (answered (class_says c.table.outs) k.keys) (made_of c k h e) (subst IsTable is valid))
 
-pub quotient_words : (c : Classed) (k : KeyTable) (u : Table) → IsClassed c → IsExplored (quotient c) 16777216 k → u ≡ laid c.table.base c.table.tracks k (answered (class_says c.table) k.keys) → AcceptSameWords c.table u
-quotient_words c k u h e is = subst (λ v. AcceptSameWords c.table v) (sym is) (words c k (answered (class_says c.table) k.keys) (made_of c k h e))
+pub quotient_words : (c : Classed) (k : KeyTable) (u : Table) → IsClassed c → IsExplored (quotient (classing c)) (all_cells (classing c)) k → u ≡ laid c.table.base c.table.tracks k (answered (class_says c.table.outs) k.keys) → AcceptSameWords c.table u
+quotient_words c k u h e is = subst (λ v. AcceptSameWords c.table v) (sym is) (words c k (answered (class_says c.table.outs) k.keys) (made_of c k h e))

@@ -1,3 +1,5 @@
+pub mod Reaching
 pub mod ClassRuns
 pub mod Explorations
 pub mod Comparing
+pub mod FractionTables

@@ -1,20 +1,20 @@
-//! Tables that are canonical: equal exactly where they accept the same words.
+//! Tables that are canonical: equal exactly if they accept the same words, or the same lassos.
 
-ghost use Rattle.std.specs.Prelude.{◌≡◌, IfOk};
-ghost use Rattle.lash_model.specs.Tables.{letters, IsDiagram};
-ghost use Rattle.canonical_laws.specs.Behaviour.{AreClasses};
+ghost use Rattle.std.specs.Prelude.{◌≡◌, ◌<◌, IfOk};
+ghost use Rattle.lash_model.specs.Tables.{letters, fracs, IsDiagram};
 ghost use Rattle.canonical_laws.specs.Canonical.{IsCanonical, AcceptSameWords};
+ghost use Rattle.part_laws.specs.Graphs.{IsWeak};
+ghost use Rattle.part_laws.specs.CanonicalMixed.{fraction_graph, IsCanonicalMixed, IsCanonicalTable, AcceptSameLassos};
 
-use crate::copies::{outs_of, rows_of};
-use crate::quotient::quotient_table;
+use crate::diagrams::canonical_diagram;
+use crate::fractions::canonical_fractions;
 use lash_io::Memory;
 use packed_cells::{Cells, Packed, Plain};
-use state_classes::classes;
 use std::alloc::Global;
 use std::marker::Model;
 use step_tables::{Table, pack};
 
-/// A canonical table, in packed cells.
+/// A canonical table, a diagram or a table with fraction states, in packed cells.
 #[derive(Drop)]
 pub struct Canon {
     table: Table<Packed>,
@@ -22,19 +22,19 @@ pub struct Canon {
 
 impl Model for Canon {
     ghost use Rattle.step_tables.specs.Kept.{Kept};
-    ghost use Rattle.canonical_laws.specs.Canonical.{IsCanonical};
+    ghost use Rattle.part_laws.specs.CanonicalMixed.{IsCanonicalTable};
 
     ghost Value = { Kept };
 
     ghost view = { λ c. c.table };
 
-    ghost invariant = { λ c. IsCanonical c.table.table };
+    ghost invariant = { λ c. IsCanonicalTable c.table.table };
 }
 
 impl Canon {
     /// A table that is known to be canonical.
     pub fn new(table: Table<Packed>) -> Self
-        requires { IsCanonical table.table }
+        requires { IsCanonicalTable table.table }
         ensures { result ≡ table }
     {
         Canon { table }
@@ -43,7 +43,9 @@ impl Canon {
     /// The table.
     pub fn table(&self) -> &Table<Packed>
         ensures value { result.now ≡ self.now }
-        ensures canonical { IsCanonical self.now.table }
+        ensures canonical { IsCanonicalTable self.now.table }
+        ensures diagram { IsDiagram self.now.table → IsCanonical self.now.table }
+        ensures fractions { 0 < fracs self.now.table → IsCanonicalMixed self.now.table }
     {
         &self.table
     }
@@ -51,35 +53,17 @@ impl Canon {
     /// The table, given away.
     pub fn into_table(self) -> Table<Packed>
         ensures value { result ≡ self }
-        ensures canonical { IsCanonical result.table }
+        ensures canonical { IsCanonicalTable result.table }
+        ensures diagram { IsDiagram result.table → IsCanonical result.table }
+        ensures fractions { 0 < fracs result.table → IsCanonicalMixed result.table }
     {
         self.table
     }
 }
 
-/// The classes of the states that behave alike. The rows are copied only where they do not stand as they are.
-fn classes_of<C: Cells>(alloc: Global, table: &Table<C>) -> Result<Vec<u32>, Memory>
-    requires { IsDiagram table.now.table }
-    ensures { IfOk result (λ c. AreClasses table.now.table.rows (letters table.now.table) table.now.table.outs c.items) }
-{
-    match (table.lent_rows(), table.lent_outs()) {
-        (Some(rows), Some(outs)) => return classes(alloc, rows, table.letters(), outs),
-        _ => {}
-    }
-    let rows = match rows_of(alloc, table) {
-        Ok(rows) => rows,
-        Err(Memory) => return Err(Memory),
-    };
-    let outs = match outs_of(alloc, table) {
-        Ok(outs) => outs,
-        Err(Memory) => return Err(Memory),
-    };
-    classes(alloc, &rows, table.letters(), &outs)
-}
-
-/// A canonical table in packed cells. Fails only for want of memory.
+/// The canonical table in packed cells. Fails only if memory runs out.
 fn packed(alloc: Global, table: &Table<Plain>) -> Result<Canon, Memory>
-    requires { IsCanonical table.now.table }
+    requires { IsCanonicalTable table.now.table }
     ensures { IfOk result (λ u. u.table ≡ table.now.table) }
 {
     match pack(alloc, table) {
@@ -88,19 +72,23 @@ fn packed(alloc: Global, table: &Table<Plain>) -> Result<Canon, Memory>
     }
 }
 
-/// The canonical table of a diagram: of the same base and number of tracks, it accepts the same words. Fails only for want of memory.
+/// The canonical table of a diagram, or of a table with fraction states whose fraction part is weak: of the same kind, base and number
+/// of tracks, it accepts the same words or lassos. Fails only if memory runs out.
 pub fn canonical<C: Cells>(alloc: Global, table: &Table<C>) -> Result<Canon, Memory>
-    requires { IsDiagram table.now.table }
-    ensures canonical { IfOk result (λ u. IsCanonical u.table) }
+    requires { 0 < fracs table.now.table → IsWeak (letters table.now.table) (fraction_graph table.now.table) }
     ensures base { IfOk result (λ u. u.table.base ≡ table.now.table.base) }
     ensures tracks { IfOk result (λ u. u.table.tracks ≡ table.now.table.tracks) }
-    ensures words { IfOk result (λ u. AcceptSameWords table.now.table u.table) }
+    ensures diagram { IsDiagram table.now.table → IfOk result (λ u. IsCanonical u.table) }
+    ensures words { IsDiagram table.now.table → IfOk result (λ u. AcceptSameWords table.now.table u.table) }
+    ensures fractions { 0 < fracs table.now.table → IfOk result (λ u. IsCanonicalMixed u.table) }
+    ensures lassos { 0 < fracs table.now.table → IfOk result (λ u. AcceptSameLassos table.now.table u.table) }
 {
-    let classes = match classes_of(alloc, table) {
-        Ok(classes) => classes,
-        Err(Memory) => return Err(Memory),
+    let made = if table.fracs() == 0 {
+        canonical_diagram(alloc, table)
+    } else {
+        canonical_fractions(alloc, table)
     };
-    match quotient_table(alloc, table, &classes) {
+    match made {
         Ok(made) => packed(alloc, &made),
         Err(Memory) => Err(Memory),
     }

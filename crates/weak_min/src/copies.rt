@@ -1,7 +1,7 @@
 //! Copies of a table's lists.
 
 ghost use Rattle.std.specs.Prelude.{◌≡◌, ◌+◌, ◌*◌, ◌<◌, take, IfOk, OnOk};
-ghost use Rattle.lash_model.specs.Tables.{letters, ints};
+ghost use Rattle.lash_model.specs.Tables.{letters, ints, IsTable};
 
 use lash_io::Memory;
 use packed_cells::Cells;
@@ -23,7 +23,7 @@ fn push_row<C: Cells>(table: &Table<C>, state: u32, rows: &mut Vec<u32>) -> Resu
     Ok(())
 }
 
-/// The rows of targets of a table's integer states, one behind another.
+/// The rows of targets of a table's integer states, one after the other.
 pub fn rows_of<C: Cells>(alloc: Global, table: &Table<C>) -> Result<Vec<u32>, Memory>
     ensures { IfOk result (λ rows. rows.items ≡ table.now.table.rows) }
 {
@@ -57,4 +57,41 @@ pub fn outs_of<C: Cells>(alloc: Global, table: &Table<C>) -> Result<Vec<u32>, Me
         }
     }
     Ok(outs)
+}
+
+/// The roots of a table, one for each sign vector.
+pub fn roots_of<C: Cells>(alloc: Global, table: &Table<C>) -> Result<Vec<u32>, Memory>
+    requires { IsTable table.now.table }
+    ensures { IfOk result (λ roots. roots.items ≡ table.now.table.roots) }
+{
+    let signs = 2u32.pow(table.tracks());
+    let mut roots = match Vec::with_capacity(alloc, signs as usize) {
+        Ok(roots) => roots,
+        Err(_) => return Err(Memory),
+    };
+    for sign in 0..signs {
+        match roots.push(table.root(sign)) {
+            Ok(()) => {}
+            Err(_) => return Err(Memory),
+        }
+    }
+    Ok(roots)
+}
+
+/// The colours of a table's fraction states: 1 for yes, and 0 for no.
+pub fn colours_of<C: Cells>(alloc: Global, table: &Table<C>) -> Result<Vec<u32>, Memory>
+    requires { IsTable table.now.table }
+    ensures { IfOk result (λ colours. colours.items ≡ table.now.table.colours) }
+{
+    let mut colours = match Vec::with_capacity(alloc, table.fracs() as usize) {
+        Ok(colours) => colours,
+        Err(_) => return Err(Memory),
+    };
+    for state in 0..table.fracs() {
+        match colours.push(u32::from(table.colour(state))) {
+            Ok(()) => {}
+            Err(_) => return Err(Memory),
+        }
+    }
+    Ok(colours)
 }

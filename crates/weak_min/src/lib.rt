@@ -1,15 +1,18 @@
-//! Canonical diagrams: the states that behave alike become one, and are numbered by their least paths.
+//! Canonical tables: the states that behave alike become one, and are numbered by their least paths.
 #![tactic(auto)]
 
+mod answers;
 mod canon;
 mod comparison;
 mod copies;
-mod outputs;
+mod diagrams;
+mod fractions;
 mod quotient;
 
 pub use canon::{Canon, canonical};
 pub use comparison::same;
-pub use quotient::quotient_table;
 
 #[cfg(test)]
 mod tests;
+#[cfg(test)]
+mod weak_tests;
