@@ -3,6 +3,7 @@
 ghost use Rattle.std.specs.Prelude.{◌≡◌, ◌+◌, ◌-◌, ◌<◌, ◌≤◌, ℕ, ℤ, List, length, IfOk, IfErr, OnOk};
 ghost use Rattle.lash_model.specs.Formulas.{Int, Formula as Set, Exists};
 ghost use Rattle.lash_model.specs.Standing.{StandsForWhole};
+ghost use Rattle.lash_model.specs.Tables.{IsDiagram};
 ghost use Rattle.lash_model.specs.Sets.{set_of, bound_at};
 ghost use Rattle.formula_core.specs.Atoms.{HasLinearAtoms};
 ghost use Rattle.formula_core.specs.Counts.{free_places};
@@ -19,9 +20,10 @@ use step_tables::BuildError;
 use subset_build::project_int;
 use weak_min::{Canon, canonical};
 
-/// The canonical table that forgets a track of the given one. The limit of cells is at most 16,777,216. `Heavy` comes exactly where the
+/// The canonical table that forgets a track of the given diagram. The limit of cells is at most 16,777,216. `Heavy` comes exactly where the
 /// subsets pass the limit.
 fn projected(alloc: Global, body: &Canon, track: u32, limit: u64) -> Result<Canon, CompileError>
+    requires diagram { IsDiagram body.now.table }
     requires track { track < body.now.table.tracks }
     requires limit { limit ≤ 16777216 }
     ensures shape { IfOk result (λ c. IsShaped body.now.table.base (body.now.table.tracks - 1) c.table) }

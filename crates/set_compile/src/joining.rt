@@ -4,6 +4,7 @@ ghost use Rattle.std.specs.Prelude.{◌≡◌, ◌≤◌, ◌^◌, ℕ, ℤ, Lis
 ghost use Rattle.graph_laws.specs.Exploring.{IsHeavy};
 ghost use Rattle.lash_model.specs.Formulas.{Formula};
 ghost use Rattle.lash_model.specs.Standing.{StandsForWhole};
+ghost use Rattle.lash_model.specs.Tables.{IsDiagram};
 ghost use Rattle.lash_model.specs.Sets.{set_of};
 ghost use Rattle.product_ops.specs.Operations.{joined};
 ghost use Rattle.product_ops.specs.Pairs.{pairs};
@@ -16,7 +17,7 @@ use std::alloc::Global;
 use step_tables::BuildError;
 use weak_min::{Canon, canonical};
 
-/// The canonical table of the truth function of two tables of one base. The map's lists have as many entries as they have tracks, its
+/// The canonical table of the truth function of two diagrams of one base. The map's lists have as many entries as they have tracks, its
 /// letters are at most 4,096, and the limit of cells is at most 16,777,216. `Heavy` comes exactly where the pairs pass the limit.
 pub fn join(
     alloc: Global,
@@ -26,6 +27,8 @@ pub fn join(
     op: Op,
     limit: u64,
 ) -> Result<Canon, CompileError>
+    requires left_diagram { IsDiagram left.now.table }
+    requires right_diagram { IsDiagram right.now.table }
     requires base { left.now.table.base ≡ right.now.table.base }
     requires left_tracks { length map.now.left ≡ left.now.table.tracks }
     requires right_tracks { length map.now.right ≡ right.now.table.tracks }

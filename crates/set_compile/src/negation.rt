@@ -15,8 +15,9 @@ use product_ops::complement;
 use step_tables::Table;
 use weak_min::Canon;
 
-/// The table with the opposite answers.
+/// The diagram with the opposite answers.
 fn exchanged(part: Canon) -> Table<Packed>
+    requires { IsDiagram part.table }
     ensures changed { result ≡ record part { table = negated part.table } }
     ensures diagram { IsDiagram result.table }
     ensures canonical { IsCanonical result.table }
@@ -28,9 +29,10 @@ fn exchanged(part: Canon) -> Table<Packed>
     table
 }
 
-/// The canonical table that accepts what the given one does not. States that behave alike do so with exchanged outputs too, so nothing
+/// The canonical diagram that accepts what the given one does not. States that behave alike do so with exchanged outputs too, so nothing
 /// is left to be made canonical.
 pub fn opposite(part: Canon) -> Result<Canon, CompileError>
+    requires { IsDiagram part.table }
     ensures shape { IfOk result (λ c. IsShaped part.table.base part.table.tracks c.table) }
     ensures words { IfOk result (λ c. AcceptsOthers part.table c.table) }
     ensures stands { IfOk result (λ c. (f : Formula) (s : List ℤ → List ℤ) → StandsForWhole part.table (set_of f s) → StandsForWhole c.table (λ ns d. set_of f s ns d → ⊥)) }

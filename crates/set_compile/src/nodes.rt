@@ -5,6 +5,7 @@ ghost use Rattle.std.specs.Prelude.{◌≡◌, ◌≤◌, ◌^◌, ℕ, ℤ, Lis
 ghost use Rattle.graph_laws.specs.Exploring.{IsHeavy};
 ghost use Rattle.lash_model.specs.Formulas.{Formula as Set, And, Or};
 ghost use Rattle.lash_model.specs.Standing.{StandsForWhole};
+ghost use Rattle.lash_model.specs.Tables.{IsDiagram};
 ghost use Rattle.lash_model.specs.Sets.{set_of};
 ghost use Rattle.formula_core.specs.Atoms.{HasLinearAtoms};
 ghost use Rattle.formula_core.specs.Counts.{uses, free_places};
@@ -41,6 +42,8 @@ fn joined(
 ) -> Result<Canon, CompileError>
     requires left_used { (place : ℕ) → IsTrue (uses place (formula_of left.0.now)) → IsTrue (uses place (formula_of whole.now)) }
     requires right_used { (place : ℕ) → IsTrue (uses place (formula_of right.0.now)) → IsTrue (uses place (formula_of whole.now)) }
+    requires left_diagram { IsDiagram left.1.now.table }
+    requires right_diagram { IsDiagram right.1.now.table }
     requires base { left.1.now.table.base ≡ right.1.now.table.base }
     requires left_tracks { left.1.now.table.tracks ≡ length (free_places (formula_of left.0.now) places) }
     requires right_tracks { right.1.now.table.tracks ≡ length (free_places (formula_of right.0.now) places) }

@@ -1,4 +1,4 @@
-use Rattle.std.proofs.Common.{◌<◌, ℕ, length, sym, ap, subst, arith}
+use Rattle.std.proofs.Common.{◌<◌, ℕ, length, sym, ap, subst, arith, rules, ◌∙◌}
 use Rattle.std.proofs.Math.IntN.{ℤ}
 use Rattle.std.specs.Prelude.{All}
 use Rattle.std.proofs.lemmas.List.Elements.{All-from_recursion}
@@ -28,7 +28,7 @@ pub atom_int-requires-clause-inside : goal.atom_int-requires-clause-inside
 atom_int-requires-clause-inside c = subst IsInside (sym c.in-Ok.ensures.own) (own_inside c.args.term.now c.requires.inside)
 
 pub returns-in-Ok-canonical-clause-stands : goal.returns-in-Ok-canonical-clause-stands
-returns-in-Ok-canonical-clause-stands c = stands_carried c.in-Ok-atom_int.table.table c.in-Ok-canonical.made.table (holds (Atom (comparison_of c.args.kind) (own c.args.term.now))) (sym c.in-Ok-canonical.ensures.base) (sym c.in-Ok-canonical.ensures.tracks) c.in-Ok-canonical.ensures.canonical.diagram c.in-Ok-canonical.ensures.words (subst (λ (a : Linear). StandsForWhole c.in-Ok-atom_int.table.table (holds (Atom (comparison_of c.args.kind) a))) c.in-Ok.ensures.own c.in-Ok-atom_int.ensures.stands)
+returns-in-Ok-canonical-clause-stands c = stands_carried c.in-Ok-atom_int.table.table c.in-Ok-canonical.made.table (holds (Atom (comparison_of c.args.kind) (own c.args.term.now))) (sym c.in-Ok-canonical.ensures.base) (sym c.in-Ok-canonical.ensures.tracks) (c.in-Ok-canonical.ensures.diagram c.in-Ok-atom_int.ensures.stands.diagram).diagram (c.in-Ok-canonical.ensures.words c.in-Ok-atom_int.ensures.stands.diagram) (subst (λ (a : Linear). StandsForWhole c.in-Ok-atom_int.table.table (holds (Atom (comparison_of c.args.kind) a))) c.in-Ok.ensures.own c.in-Ok-atom_int.ensures.stands)
 
 pub returns-in-Ok-canonical-clause-made : goal.returns-in-Ok-canonical-clause-made
 returns-in-Ok-canonical-clause-made c = record {
@@ -36,5 +36,12 @@ returns-in-Ok-canonical-clause-made c = record {
   counts =
       subst (λ n. IsAtomTable (comparison_of c.args.kind) (own c.args.term.now) c.args.base n c.args.limit c.in-Ok-atom_int.table.table) (ap length c.terms.ensures.terms)
       (subst (λ (a : Linear). IsAtomTable (comparison_of c.args.kind) a c.args.base (length c.terms.result.now) c.args.limit c.in-Ok-atom_int.table.table) c.in-Ok.ensures.own c.in-Ok-atom_int.ensures.counts);
-  words = c.in-Ok-canonical.ensures.words;
+  words = c.in-Ok-canonical.ensures.words c.in-Ok-atom_int.ensures.stands.diagram;
+}
+
+pub returns-in-Ok-canonical-clause-shape : goal.returns-in-Ok-canonical-clause-shape
+returns-in-Ok-canonical-clause-shape c = record {
+  canonical = c.in-Ok-canonical.ensures.diagram c.in-Ok-atom_int.ensures.stands.diagram;
+  base_is = search rules;
+  tracks_are = c.in-Ok-canonical.ensures.tracks ∙ c.in-Ok-atom_int.ensures.counts.counts.steps.tracks ∙ ap length c.terms.ensures.terms;
 }
