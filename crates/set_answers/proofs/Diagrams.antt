@@ -3,9 +3,14 @@ use Rattle.std.proofs.Common.{◌≡◌, ℕ, zero, suc, ◌^◌, ◌≤◌, ◌
 use Rattle.std.proofs.Math.Nat.{pow-le-pow_left, pow-le-pow_right}
 use Rattle.lash_model.specs.Formulas.{Sort, Formula}
 use Rattle.lash_model.specs.Meaning.{holds, Solves}
-use Rattle.lash_model.specs.Tables.{Table, IsTable}
+use Rattle.lash_model.specs.Tables.{Table, IsTable, IsDiagram}
 use Rattle.lash_model.specs.Standing.{StandsForWhole, StandsFor, all_int}
 use Rattle.lash_model.proofs.Wholeness.{whole_over_one}
+use Rattle.canonical_laws.specs.Canonical.{IsCanonical}
+use Rattle.part_laws.specs.CanonicalMixed.{IsCanonicalTable}
+use Rattle.part_laws.proofs.BothKinds.{canonical_table, canonical_diagram}
+use Rattle.set_answers.specs.Sorts.{AreIntegers}
+use Rattle.set_answers.proofs.IntegerSorts.{of_sorts}
 
 opened : (t : Table) (n : ℕ) (f : Formula) → n < 13 → StandsFor t (all_int n) f → StandsForWhole t (Solves (all_int n) f)
 opened t zero f lt s = s
@@ -32,6 +37,13 @@ few_tracks base n h few = not_more (λ le. omega (arith, few, pow-le-pow_left h 
 
 pub whole : (t : Table) (n : ℕ) (f : Formula) → IsTable t → t.tracks ≡ n → StandsFor t (all_int n) f → StandsForWhole t (Solves (all_int n) f)
 whole t n f h e s = opened t n f (subst (λ m. m < 13) e (few_tracks t.base t.tracks h.shape.base_low h.shape.few_letters)) s
+
+-- a canonical table of a set of integers is a diagram
+pub diagram_of : (t : Table) (sorts : List Sort) (f : Formula) → AreIntegers sorts → IsCanonicalTable t → t.tracks ≡ length sorts → StandsFor t sorts f → IsDiagram t
+diagram_of t sorts f integers c e = of_sorts (λ ss. StandsFor t ss f → IsDiagram t) sorts integers (λ s. (whole t (length sorts) f (canonical_table t c) e s).diagram)
+
+pub canonical_of : (t : Table) (sorts : List Sort) (f : Formula) → AreIntegers sorts → IsCanonicalTable t → t.tracks ≡ length sorts → StandsFor t sorts f → IsCanonical t
+canonical_of t sorts f integers c e s = canonical_diagram t c (diagram_of t sorts f integers c e s)
 
 -- a table stands for a formula's meaning where it stands for its set
 pub stands_for_meaning : (t : Table) (sorts : List Sort) (f : Formula) → StandsForWhole t (Solves sorts f) → StandsForWhole t (holds f)

@@ -6,7 +6,7 @@ ghost use Rattle.std.specs.List.{range_with_len};
 ghost use Rattle.graph_laws.specs.Exploring.{IsHeavy};
 ghost use Rattle.lash_model.specs.Formulas.{Sort, Formula};
 ghost use Rattle.lash_model.specs.Standing.{StandsFor};
-ghost use Rattle.lash_model.specs.Tables.{ints};
+ghost use Rattle.lash_model.specs.Tables.{ints, IsDiagram};
 ghost use Rattle.canonical_laws.specs.Canonical.{IsCanonical};
 ghost use Rattle.product_ops.specs.Pairs.{pairs};
 ghost use Rattle.set_answers.specs.Agreement.{Includes};
@@ -20,12 +20,14 @@ use std::alloc::Global;
 use step_tables::{BuildError, Table};
 use weak_min::Canon;
 
-/// Whether each solution of the first diagram's set is one of the second's. As conditions, the diagrams have one base and one number
+/// Whether each solution of the first diagram's set is one of the second's. As conditions, both canonical tables are diagrams, and have one base and one number
 /// of tracks, and the limit of cells is at most 16,777,216.
 ///
 /// `Heavy` comes exactly where the pairs of states that are reached have more cells than the limit: for each the number of letters,
 /// one, and its two entries. `Memory` where memory is wanting.
 pub fn subset(alloc: Global, left: &Canon, right: &Canon, limit: u64) -> Result<bool, BuildError>
+    requires left { IsDiagram left.now.table }
+    requires right { IsDiagram right.now.table }
     requires base { left.now.table.base ≡ right.now.table.base }
     requires tracks { left.now.table.tracks ≡ right.now.table.tracks }
     requires limit { limit ≤ 16777216 }

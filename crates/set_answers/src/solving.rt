@@ -2,6 +2,7 @@
 
 ghost use Rattle.std.specs.Prelude.{◌≡◌, ◌≤◌, ◌<◌, ◌^◌, List, length, IfOk};
 ghost use Rattle.lash_model.specs.Lassos.{IsLasso};
+ghost use Rattle.lash_model.specs.Tables.{IsDiagram};
 ghost use Rattle.digit_codes.specs.Reading.{lasso_of};
 ghost use Rattle.set_answers.specs.Solving.{AreFound, IsFixedSolution, Written};
 
@@ -17,7 +18,7 @@ use weak_min::Canon;
 
 /// Writes the fixed solution of a canonical diagram: `empty` where it accepts nothing, and else `solution` and a line for each
 /// variable, with its name, its value in lowest terms, or `-` where the base to the number of letters passes 2 ^ 100, and its digits.
-/// As conditions, the header's base is the diagram's, and it has a variable for each track.
+/// As conditions, the canonical table is a diagram, the header's base is the diagram's, and it has a variable for each track.
 ///
 /// `Fault` at a fault of the sink, which then holds a prefix of the text; `Memory` where memory is wanting, before anything is
 /// written.
@@ -27,6 +28,7 @@ pub fn write_solution<K: Sink>(
     header: &Header,
     sink: &mut K,
 ) -> Result<(), WriteError>
+    requires diagram { IsDiagram canon.now.table }
     requires base { header.now.base ≡ canon.now.table.base }
     requires variables { length header.now.vars ≡ canon.now.table.tracks }
     ensures solved { Written header.now.vars canon.now.table (K.held sink.old) (K.held sink.new) (K.faults sink.old) (K.faults sink.new) result }
