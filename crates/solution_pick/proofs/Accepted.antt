@@ -9,27 +9,35 @@ use Rattle.lash_model.specs.Acceptance.{int_state}
 use Rattle.lash_model.specs.Lassos.{IsLasso}
 use Rattle.lash_model.proofs.Digits.{power_positive}
 use Rattle.canonical_laws.specs.Canonical.{IsPathOf, IsCanonical}
+use Rattle.solution_pick.specs.Nets.{IsOrdered, int_net}
 use Rattle.solution_pick.specs.Solutions.{AcceptsNothing, IsLeastAccepted}
 use Rattle.solution_pick.specs.Arrivals.{IsFirstYes, IsLeastTo}
-use Rattle.solution_pick.proofs.PathEnds.{meet}
+use Rattle.solution_pick.proofs.PathEnds.{meet, int_closed}
 use Rattle.solution_pick.proofs.LeastPaths.{least_at_most}
 
-path_of : (t : Table) → IsTable t → (sign : ℕ) (w : List ℕ) → sign < 2 ^ t.tracks → All (λ l. l < letters t) w → IsPathOf t.roots (letters t) (record { start = sign; word = w })
+pub path_of : (t : Table) → IsTable t → (sign : ℕ) (w : List ℕ) → sign < 2 ^ t.tracks → All (λ l. l < letters t) w
+    → IsPathOf t.roots (letters t) (record { start = sign; word = w })
 path_of t h sign w lt a = record { start = subst (λ n. sign < n) (sym h.roots_count) lt; letters = recursion_from_All (λ l. l < letters t) w a }
 
-pub least_accepted : (t : Table) → IsCanonical t → (q sign : ℕ) (w : List ℕ) → IsFirstYes t q → IsLeastTo t q (record { start = sign; word = w }) → IsLeastAccepted t sign w
+pub canonical_ordered : (t : Table) → IsCanonical t → IsOrdered (int_net t)
+canonical_ordered t c = record { closed = int_closed t c.table; numbered = c.numbered }
+
+pub least_accepted : (t : Table) → IsCanonical t → (q sign : ℕ) (w : List ℕ) → IsFirstYes t q → IsLeastTo (int_net t) q (record { start = sign; word = w })
+    → IsLeastAccepted t sign w
 least_accepted t c q sign w f s = record {
   sign_in = subst (λ n. sign < n) c.table.roots_count s.valid.start;
   letters_in = All-from_recursion (λ l. l < letters t) w s.valid.letters;
   accepted = ap (λ p. nat_eq (slice_index t.outs p) 1) s.leads ∙ ap (λ x. nat_eq x 1) f.yes;
-  least = λ other v lt a e. least_at_most t c q (record { start = sign; word = w }) (record { start = other; word = v }) s (path_of t c.table other v lt a) (not_earlier (int_state t other v) (eqb-true (slice_index t.outs (int_state t other v)) 1 e));
+  least = λ other v lt a e. least_at_most (int_net t) (canonical_ordered t c) q (record { start = sign; word = w }) (record { start = other; word = v }) s
+      (path_of t c.table other v lt a) (not_earlier (int_state t other v) (eqb-true (slice_index t.outs (int_state t other v)) 1 e));
 }
   where
     not_earlier : (p : ℕ) → slice_index t.outs p ≡ 1 → q ≤ p
     not_earlier p e = elim (cases_lt p q) [ inl lt ↦ absurd (f.first p lt e) | inr ge ↦ ge ]
 
 -- ---- the lasso
-pub in_range : (t : Table) → IsTable t → (sign : ℕ) (w : List ℕ) → IsLeastAccepted t sign w → IsLasso t.base t.tracks (record { sign = sign; whole = w; stem = []; cycle = 0 ∷ [] })
+pub in_range : (t : Table) → IsTable t → (sign : ℕ) (w : List ℕ) → IsLeastAccepted t sign w
+    → IsLasso t.base t.tracks (record { sign = sign; whole = w; stem = []; cycle = 0 ∷ [] })
 in_range t h sign w s = record {
   sign = s.sign_in;
   whole = s.letters_in;
@@ -49,4 +57,5 @@ abbrev pub pair : ℕ → List ℕ → Path
 pair sign w = record { start = sign; word = w }
 
 pub one_path : (t : Table) (sign other : ℕ) (w v : List ℕ) → IsLeastAccepted t sign w → IsLeastAccepted t other v → pair sign w ≡ pair other v
-one_path t sign other w v a b = meet (pair sign w) (pair other v) (a.least other v b.sign_in b.letters_in b.accepted) (b.least sign w a.sign_in a.letters_in a.accepted)
+one_path t sign other w v a b = meet (pair sign w) (pair other v) (a.least other v b.sign_in b.letters_in b.accepted)
+    (b.least sign w a.sign_in a.letters_in a.accepted)

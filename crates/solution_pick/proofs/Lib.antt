@@ -4,3 +4,6 @@ pub mod Marked
 pub mod Walked
 pub mod Accepted
 pub mod IdleLetters
+pub mod FractionWalks
+pub mod DeadStates
+pub mod FixedSolutions

@@ -1,53 +1,51 @@
--- How states are arrived at: by roots and by steps, the first of each, and by least paths (breadth-first search).
-use Rattle.std.specs.Prelude.{ℕ, ◌+◌, ◌*◌, ◌^◌, ◌<◌, ◌≤◌, ◌≡◌, ◌⊎◌, List, length, slice_index}
+-- How states are arrived at: by starts and by steps, the first of each, and by least paths (breadth-first search).
+use Rattle.std.specs.Prelude.{ℕ, ◌+◌, ◌<◌, ◌≤◌, ◌≡◌, ◌⊎◌, List, length, slice_index}
 use Rattle.graph_laws.specs.Paths.{Path, AtMost}
-use Rattle.lash_model.specs.Tables.{Table, letters, ints}
-use Rattle.canonical_laws.specs.Canonical.{IsPathOf, walked}
+use Rattle.lash_model.specs.Tables.{Table, ints}
+use Rattle.canonical_laws.specs.Canonical.{IsPathOf}
+use Rattle.solution_pick.specs.Nets.{Net, target, end_of}
 
--- the state behind a state and a letter
-abbrev pub target : Table → ℕ → ℕ → ℕ
-target t q l = slice_index t.rows (q * letters t + l)
-
--- the first state whose output is yes
+-- the first state whose output is yes (own)
 pub record IsFirstYes (t : Table) (q : ℕ) : Type 0 where
   pub inside : q < ints t
   pub yes : slice_index t.outs q ≡ 1
   pub first : (p : ℕ) → p < q → slice_index t.outs p ≡ 1 → ⊥
 
--- no sign vector has the state as its root
-abbrev pub IsNoRoot : Table → ℕ → Type 0
-IsNoRoot t q = (sign : ℕ) → sign < 2 ^ t.tracks → slice_index t.roots sign ≡ q → ⊥
+-- no start is the state (own)
+abbrev pub IsNoStart : Net → ℕ → Type 0
+IsNoStart g q = (start : ℕ) → start < length g.starts → slice_index g.starts start ≡ q → ⊥
 
--- the first sign vector whose root is the state
-pub record IsFirstRoot (t : Table) (q sign : ℕ) : Type 0 where
-  pub inside : sign < 2 ^ t.tracks
-  pub leads : slice_index t.roots sign ≡ q
-  pub first : (other : ℕ) → other < sign → slice_index t.roots other ≡ q → ⊥
+-- the first start that is the state (own)
+pub record IsFirstStart (g : Net) (q start : ℕ) : Type 0 where
+  pub inside : start < length g.starts
+  pub leads : slice_index g.starts start ≡ q
+  pub first : (other : ℕ) → other < start → slice_index g.starts other ≡ q → ⊥
 
--- a letter leads from the one state to the other
-pub record HasLetter (t : Table) (from to : ℕ) : Type 0 where
+-- a letter leads from the one state to the other (own)
+pub record HasLetter (g : Net) (from to : ℕ) : Type 0 where
   pub letter : ℕ
-  pub inside : letter < letters t
-  pub leads : target t from letter ≡ to
+  pub inside : letter < g.width
+  pub leads : target g from letter ≡ to
 
--- the first letter that does
-pub record IsFirstLetter (t : Table) (from to letter : ℕ) : Type 0 where
-  pub inside : letter < letters t
-  pub leads : target t from letter ≡ to
-  pub first : (other : ℕ) → other < letter → target t from other ≡ to → ⊥
+-- the first letter that does (own)
+pub record IsFirstLetter (g : Net) (from to letter : ℕ) : Type 0 where
+  pub inside : letter < g.width
+  pub leads : target g from letter ≡ to
+  pub first : (other : ℕ) → other < letter → target g from other ≡ to → ⊥
 
--- the parent is at most the other state, and a letter leads from it to the state
-pub record IsParent (t : Table) (parent other q : ℕ) : Type 0 where
+-- the parent is at most the other state, and a letter leads from it to the state (own)
+pub record IsParent (g : Net) (parent other q : ℕ) : Type 0 where
   pub low : parent ≤ other
-  pub step : HasLetter t parent q
+  pub step : HasLetter g parent q
 
--- each state has its parent, as far as steps from states from that one on tell, and those of the one before by the first letters
-pub record AreParents (t : Table) (from letter : ℕ) (parents : List ℕ) : Type 0 where
-  pub count : length parents ≡ ints t
-  pub each : (p l : ℕ) → p < ints t → l < letters t → (from ≤ p) ⊎ ((p + 1 ≡ from) × (l < letter)) → IsParent t (slice_index parents (target t p l)) p (target t p l)
+-- each state has its parent, as far as steps from states from that one on tell, and those of the one before by the first letters (own)
+pub record AreParents (g : Net) (from letter : ℕ) (parents : List ℕ) : Type 0 where
+  pub count : length parents ≡ g.states
+  pub each : (p l : ℕ) → p < g.states → l < g.width → (from ≤ p) ⊎ ((p + 1 ≡ from) × (l < letter))
+      → IsParent g (slice_index parents (target g p l)) p (target g p l)
 
--- the least path to the state
-pub record IsLeastTo (t : Table) (q : ℕ) (p : Path) : Type 0 where
-  pub valid : IsPathOf t.roots (letters t) p
-  pub leads : walked t.roots t.rows (letters t) p ≡ q
-  pub least : (x : Path) → IsPathOf t.roots (letters t) x → walked t.roots t.rows (letters t) x ≡ q → AtMost p x
+-- the least path to the state (breadth-first search)
+pub record IsLeastTo (g : Net) (q : ℕ) (p : Path) : Type 0 where
+  pub valid : IsPathOf g.starts g.width p
+  pub leads : end_of g p ≡ q
+  pub least : (x : Path) → IsPathOf g.starts g.width x → end_of g x ≡ q → AtMost p x

@@ -1,2 +1,5 @@
 pub mod Solutions
+pub mod Nets
 pub mod Arrivals
+pub mod FractionSolutions
+pub mod FractionSearches

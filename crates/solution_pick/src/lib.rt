@@ -1,14 +1,22 @@
-//! The fixed solution of a canonical diagram, and membership.
+//! The fixed solution of a canonical table, and membership.
 #![tactic(auto)]
 
+mod fraction_steps;
+mod fractions;
 mod laws;
+mod nets;
 mod parents;
 mod picking;
 mod scans;
+mod stems;
 mod walking;
 
-pub use laws::{least_is_one, no_idle_letter, none_or_least};
+pub use laws::{
+    fixed_is_accepted, fixed_is_one, least_is_one, no_idle_letter, none_or_fixed, none_or_least,
+};
 pub use picking::{member, solution};
 
+#[cfg(test)]
+mod fraction_tests;
 #[cfg(test)]
 mod tests;

@@ -2,35 +2,36 @@
 //! written last. Costs one write for each cell.
 
 ghost use Rattle.std.specs.Prelude.{◌+◌, ◌<◌, IfOk};
-ghost use Rattle.lash_model.specs.Tables.{ints};
+ghost use Rattle.solution_pick.specs.Nets.{IsClosed};
 ghost use Rattle.solution_pick.specs.Arrivals.{AreParents};
 
+use crate::nets::Graph;
 use lash_io::Memory;
-use packed_cells::Packed;
 use std::alloc::Global;
-use step_tables::Table;
 
 /// Makes a state the parent of each state that it has a step to.
-fn mark_row(table: &Table<Packed>, state: u32, parents: &mut Vec<u32>)
-    requires state { state < ints table.now.table }
-    requires before { AreParents table.now.table (state + 1) 0 parents.old.items }
-    ensures { AreParents table.now.table state 0 parents.new.items }
+fn mark_row<G: Graph>(graph: &G, state: u32, parents: &mut Vec<u32>)
+    requires closed { IsClosed (G.net graph.now) }
+    requires state { state < (G.net graph.now).states }
+    requires before { AreParents (G.net graph.now) (state + 1) 0 parents.old.items }
+    ensures { AreParents (G.net graph.now) state 0 parents.new.items }
 {
-    for letter in 0..table.letters() {
-        parents[table.int_step(state, letter) as usize] = state;
+    for letter in 0..graph.width() {
+        parents[graph.follow(state, letter) as usize] = state;
     }
 }
 
 /// The parent of each state that has one.
-pub(crate) fn parents_of(alloc: Global, table: &Table<Packed>) -> Result<Vec<u32>, Memory>
-    ensures { IfOk result (λ parents. AreParents table.now.table 0 0 parents.items) }
+pub(crate) fn parents_of<G: Graph>(alloc: Global, graph: &G) -> Result<Vec<u32>, Memory>
+    requires { IsClosed (G.net graph.now) }
+    ensures { IfOk result (λ parents. AreParents (G.net graph.now) 0 0 parents.items) }
 {
-    let mut parents = match vec![in alloc; 0; table.ints() as usize] {
+    let mut parents = match vec![in alloc; 0; graph.states() as usize] {
         Ok(parents) => parents,
         Err(_) => return Err(Memory),
     };
-    for state in (0..table.ints()).rev() {
-        mark_row(table, state, &mut parents);
+    for state in (0..graph.states()).rev() {
+        mark_row(graph, state, &mut parents);
     }
     Ok(parents)
 }

@@ -2,16 +2,19 @@
 //! States are numbered by their least paths, so the first state whose output is yes has the least accepted path. Costs one look at
 //! each cell.
 
-ghost use Rattle.std.specs.Prelude.{◌≡◌, [], ◌∷◌, All, ◌^◌, ◌<◌, IfOk, IfNone, IfSome};
+ghost use Rattle.std.specs.Prelude.{◌≡◌, [], ◌∷◌, ◌<◌, IfOk, IfNone, IfSome};
 ghost use Rattle.lash_model.specs.Acceptance.{accepts_word};
 ghost use Rattle.lash_model.specs.Lassos.{IsLasso};
+ghost use Rattle.lash_model.specs.Tables.{fracs, IsDiagram};
 ghost use Rattle.canonical_laws.specs.Canonical.{IsCanonical};
 ghost use Rattle.digit_codes.specs.Reading.{lasso_of};
+ghost use Rattle.part_laws.specs.CanonicalMixed.{IsCanonicalTable};
+ghost use Rattle.solution_pick.specs.FractionSolutions.{AcceptsNoLasso, IsFixedSolution};
 ghost use Rattle.solution_pick.specs.Solutions.{AcceptsNothing, IsLeastAccepted};
 
-use crate::parents::parents_of;
+use crate::fractions::fraction_solution;
 use crate::scans::first_yes;
-use crate::walking::{Trail, least_trail};
+use crate::walking::{Trail, least_path};
 use digit_codes::{Lasso, Word};
 use lash_io::Memory;
 use packed_cells::Packed;
@@ -33,24 +36,33 @@ fn word_of(alloc: Global, letters: &[u32]) -> Result<Word, Memory>
     Ok(word)
 }
 
-/// The lasso of a whole number: its fraction is the letter 0 without end.
-fn whole_lasso(alloc: Global, sign: u32, letters: &[u32]) -> Result<Lasso, Memory>
-    ensures { IfOk result (λ x. lasso_of x ≡ record { sign = sign; whole = letters.now; stem = []; cycle = 0 ∷ [] }) }
+/// The lasso of these words.
+pub(crate) fn lasso(
+    alloc: Global,
+    sign: u32,
+    whole: &[u32],
+    stem: &[u32],
+    cycle: &[u32],
+) -> Result<Lasso, Memory>
+    ensures { IfOk result (λ x. lasso_of x ≡ record { sign = sign; whole = whole.now; stem = stem.now; cycle = cycle.now }) }
 {
-    let whole = match word_of(alloc, letters) {
+    let whole = match word_of(alloc, whole) {
         Ok(whole) => whole,
         Err(Memory) => return Err(Memory),
     };
-    let cycle = match word_of(alloc, &[0]) {
-        Ok(cycle) => cycle,
+    let stem = match word_of(alloc, stem) {
+        Ok(stem) => stem,
         Err(Memory) => return Err(Memory),
     };
-    Ok(Lasso {
-        sign,
-        whole,
-        stem: Word::empty(alloc),
-        cycle,
-    })
+    match word_of(alloc, cycle) {
+        Ok(cycle) => Ok(Lasso {
+            sign,
+            whole,
+            stem,
+            cycle,
+        }),
+        Err(Memory) => Err(Memory),
+    }
 }
 
 /// The solution of a table that is known to be canonical.
@@ -66,18 +78,32 @@ fn solution_of(alloc: Global, table: &Table<Packed>) -> Result<Option<Lasso>, Me
         Some(state) => state,
         None => return Ok(None),
     };
-    let parents = match parents_of(alloc, table) {
-        Ok(parents) => parents,
-        Err(Memory) => return Err(Memory),
-    };
-    let Trail { sign, letters } = match least_trail(alloc, table, parents.as_slice(), state) {
+    let Trail { start, letters } = match least_path(alloc, table, state) {
         Ok(trail) => trail,
         Err(Memory) => return Err(Memory),
     };
-    match whole_lasso(alloc, sign, letters.as_slice()) {
+    match lasso(alloc, start, letters.as_slice(), &[], &[0]) {
         Ok(lasso) => Ok(Some(lasso)),
         Err(Memory) => Err(Memory),
     }
+}
+
+/// The fixed solution of a table of either kind that is known to be canonical: of a diagram its least accepted word with the letter 0
+/// without end, of a table with fraction states the one of `fraction_solution`. The one error is Memory: out of memory.
+fn table_solution(alloc: Global, table: &Table<Packed>) -> Result<Option<Lasso>, Memory>
+    requires { IsCanonicalTable table.now.table }
+    ensures none { IsDiagram table.now.table → IfOk result (λ found. IfNone found (AcceptsNothing table.now.table)) }
+    ensures least { IsDiagram table.now.table → IfOk result (λ found. IfSome found (λ x. IsLeastAccepted table.now.table x.sign x.whole)) }
+    ensures range { IsDiagram table.now.table → IfOk result (λ found. IfSome found (λ x. IsLasso table.now.table.base table.now.table.tracks (lasso_of x))) }
+    ensures stem { IsDiagram table.now.table → IfOk result (λ found. IfSome found (λ x. x.stem ≡ [])) }
+    ensures cycle { IsDiagram table.now.table → IfOk result (λ found. IfSome found (λ x. x.cycle ≡ 0 ∷ [])) }
+    ensures no_lasso { 0 < fracs table.now.table → IfOk result (λ found. IfNone found (AcceptsNoLasso table.now.table)) }
+    ensures fixed { 0 < fracs table.now.table → IfOk result (λ found. IfSome found (λ x. IsFixedSolution table.now.table (lasso_of x))) }
+{
+    if table.fracs() == 0 {
+        return solution_of(alloc, table);
+    }
+    fraction_solution(alloc, table)
 }
 
 /// The fixed solution of a canonical diagram: a sign vector and a whole word that it accepts, such that none is less, by length,
@@ -89,7 +115,7 @@ pub fn solution(alloc: Global, canon: &Canon) -> Result<Option<Lasso>, Memory>
     ensures stem { IfOk result (λ found. IfSome found (λ x. x.stem ≡ [])) }
     ensures cycle { IfOk result (λ found. IfSome found (λ x. x.cycle ≡ 0 ∷ [])) }
 {
-    solution_of(alloc, canon.table())
+    table_solution(alloc, canon.table())
 }
 
 /// Whether a canonical diagram accepts a lasso, which is in range: the output behind its sign vector and its whole word. A diagram

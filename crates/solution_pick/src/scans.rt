@@ -1,13 +1,15 @@
-//! Searches for the first state, sign vector or letter of a kind. Each stops at the first that it finds.
+//! Searches for the first state, start or letter of a kind. Each stops at the first that it finds.
 
-ghost use Rattle.std.specs.Prelude.{◌≡◌, ℕ, ◌+◌, ◌*◌, ◌^◌, ◌<◌, slice_index, IfNone, IfSome};
-ghost use Rattle.lash_model.specs.Tables.{letters, ints, IsDiagram};
-ghost use Rattle.solution_pick.specs.Arrivals.{IsFirstYes, IsNoRoot, IsFirstRoot, HasLetter, IsFirstLetter};
+ghost use Rattle.std.specs.Prelude.{◌≡◌, ℕ, ◌<◌, slice_index, true, false, IfNone, IfSome};
+ghost use Rattle.lash_model.specs.Tables.{letters, ints, fracs};
+ghost use Rattle.solution_pick.specs.Arrivals.{IsFirstYes, IsNoStart, IsFirstStart, HasLetter, IsFirstLetter};
+ghost use Rattle.solution_pick.specs.FractionSearches.{IsDead, IsFirstLive};
 
+use crate::nets::Graph;
 use packed_cells::Packed;
 use step_tables::Table;
 
-/// The first state whose output is yes; None where there is none.
+/// The first state whose output is yes. None if there is none.
 pub(crate) fn first_yes(table: &Table<Packed>) -> Option<u32>
     ensures none { IfNone result ((q : ℕ) → q < ints table.now.table → slice_index table.now.table.outs q ≡ 1 → ⊥) }
     ensures some { IfSome result (IsFirstYes table.now.table) }
@@ -20,40 +22,71 @@ pub(crate) fn first_yes(table: &Table<Packed>) -> Option<u32>
     None
 }
 
-/// The number of sign vectors.
-fn sign_count(table: &Table<Packed>) -> u32
-    ensures { result ≡ 2 ^ table.now.table.tracks }
+/// The first start that is the state. None if there is none.
+pub(crate) fn first_start<G: Graph>(graph: &G, state: u32) -> Option<u32>
+    ensures none { IfNone result (IsNoStart (G.net graph.now) state) }
+    ensures some { IfSome result (IsFirstStart (G.net graph.now) state) }
 {
-    // They are no more than the letters, since the base is at least 2.
-    let letters = table.letters();
-    let count = 2u32.pow(table.tracks());
-    prove!(count <= letters);
-    count
-}
-
-/// The first sign vector whose root is the state; None where there is none.
-pub(crate) fn first_sign(table: &Table<Packed>, state: u32) -> Option<u32>
-    ensures none { IfNone result (IsNoRoot table.now.table state) }
-    ensures some { IfSome result (IsFirstRoot table.now.table state) }
-{
-    for sign in 0..sign_count(table) {
-        if table.root(sign) == state {
-            return Some(sign);
+    for start in 0..graph.start_count() {
+        if graph.begin(start) == state {
+            return Some(start);
         }
     }
     None
 }
 
-/// The first letter that leads from the one state to the other; there is one.
-pub(crate) fn first_letter(table: &Table<Packed>, from: u32, to: u32) -> u32
-    requires from { from < ints table.now.table }
-    requires letter { HasLetter table.now.table from to }
-    ensures { IsFirstLetter table.now.table from to result }
+/// The first letter that leads from the one state to the other. There is one.
+pub(crate) fn first_letter<G: Graph>(graph: &G, from: u32, to: u32) -> u32
+    requires from { from < (G.net graph.now).states }
+    requires letter { HasLetter (G.net graph.now) from to }
+    ensures { IsFirstLetter (G.net graph.now) from to result }
 {
-    for letter in 0..table.letters() {
-        if table.int_step(from, letter) == to {
+    for letter in 0..graph.width() {
+        if graph.follow(from, letter) == to {
             return letter;
         }
     }
     unreachable!()
+}
+
+/// The output of an integer state, which is a fraction state.
+pub(crate) fn fraction_out(table: &Table<Packed>, state: u32) -> u32
+    requires fractions { 0 < fracs table.now.table }
+    requires state { state < ints table.now.table }
+    ensures value { result ≡ slice_index table.now.table.outs state }
+    ensures below { result < fracs table.now.table }
+{
+    table.out(state)
+}
+
+/// Whether a fraction state has colour no and only steps to itself. In a canonical table those are the states from which nothing is
+/// accepted.
+fn is_dead(table: &Table<Packed>, state: u32) -> bool
+    requires { state < fracs table.now.table }
+    ensures dead { result ≡ true → IsDead table.now.table state }
+    ensures live { result ≡ false → IsDead table.now.table state → ⊥ }
+{
+    if table.colour(state) {
+        return false;
+    }
+    for letter in 0..table.letters() {
+        if table.frac_step(state, letter) != state {
+            return false;
+        }
+    }
+    true
+}
+
+/// The first integer state whose output is not dead. None if there is none.
+pub(crate) fn first_live(table: &Table<Packed>) -> Option<u32>
+    requires { 0 < fracs table.now.table }
+    ensures none { IfNone result ((q : ℕ) → q < ints table.now.table → IsDead table.now.table (slice_index table.now.table.outs q)) }
+    ensures some { IfSome result (IsFirstLive table.now.table) }
+{
+    for state in 0..table.ints() {
+        if !is_dead(table, fraction_out(table, state)) {
+            return Some(state);
+        }
+    }
+    None
 }

@@ -3,4 +3,4 @@ use Rattle.solution_pick.specs.Arrivals.{AreParents}
 use Rattle.solution_pick.proofs.parents.mark_row.Given as goal
 
 abbrev pub invariant-loop-letter : goal.invariant-loop-letter
-invariant-loop-letter l = AreParents l.table.table (l.state + 1) l.letter l.parents.items
+invariant-loop-letter g l = AreParents (g.G.Graph.net l.graph) (l.state + 1) l.letter l.parents.items

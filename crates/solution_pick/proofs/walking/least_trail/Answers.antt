@@ -1,32 +1,42 @@
--- A state with no root has its parent before it, and the least path to it is the parent's and the first letter.
+-- A state that is no start has its parent before it, and the least path to it is the parent's and the first letter.
 use Rattle.std.proofs.Common.{List, ℕ, arith, sym, subst, slice_index}
-use Rattle.solution_pick.specs.Arrivals.{IsNoRoot, IsLeastTo}
+use Rattle.solution_pick.specs.Arrivals.{IsNoStart, IsLeastTo}
 use Rattle.solution_pick.proofs.Marked.{parent_of}
 use Rattle.solution_pick.proofs.Walked.{IsWalking, walk_more, walk_ended}
 use Rattle.solution_pick.proofs.walking.least_trail.Goals as goal
 
 pub returns-in-Some : goal.returns-in-Some
-returns-in-Some c =
-    subst (λ (w : List ℕ). IsLeastTo c.args.table.now.table c.args.state (record { start = c.in-Some.sign; word = w })) (sym c.reverse.ensures.items)
-    (walk_ended c.args.table.now.table c.requires.canonical c.args.state c.loop-sign.at c.in-Some.sign c.loop-sign.letters.items c.in-Some.ensures.some c.loop-sign.invariant)
+returns-in-Some g c =
+    let net = g.G.Graph.net c.args.graph.now in
+    subst (λ (w : List ℕ). IsLeastTo net c.args.state (record { start = c.in-Some.start; word = w })) (sym c.reverse.ensures.items)
+    (walk_ended net c.requires.ordered c.args.state c.loop-start.at c.in-Some.start c.loop-start.letters.items c.in-Some.ensures.some c.loop-start.invariant)
 
 pub first_letter-requires-clause-from : goal.first_letter-requires-clause-from
-first_letter-requires-clause-from c =
-    let no_root : IsNoRoot c.args.table.now.table c.loop-sign.at = c.in_default.ensures.none in
-    omega (arith, (parent_of c.args.table.now.table c.requires.canonical c.args.parents.now c.requires.parents c.loop-sign.at c.loop-sign.invariant.inside no_root).earlier, c.loop-sign.invariant.inside)
+first_letter-requires-clause-from g c =
+    let net = g.G.Graph.net c.args.graph.now in
+    let no_start : IsNoStart net c.loop-start.at = c.in_default.ensures.none in
+    omega (
+      arith,
+      (parent_of net c.requires.ordered c.args.parents.now c.requires.parents c.loop-start.at c.loop-start.invariant.inside no_start).earlier,
+      c.loop-start.invariant.inside,
+    )
 
 pub first_letter-requires-clause-letter : goal.first_letter-requires-clause-letter
-first_letter-requires-clause-letter c =
-    let no_root : IsNoRoot c.args.table.now.table c.loop-sign.at = c.in_default.ensures.none in
-    (parent_of c.args.table.now.table c.requires.canonical c.args.parents.now c.requires.parents c.loop-sign.at c.loop-sign.invariant.inside no_root).step
+first_letter-requires-clause-letter g c =
+    let net = g.G.Graph.net c.args.graph.now in
+    let no_start : IsNoStart net c.loop-start.at = c.in_default.ensures.none in
+    (parent_of net c.requires.ordered c.args.parents.now c.requires.parents c.loop-start.at c.loop-start.invariant.inside no_start).step
 
-pub loop-sign-smaller : goal.loop-sign-smaller
-loop-sign-smaller c =
-    let no_root : IsNoRoot c.args.table.now.table c.loop-sign.at = c.in_default.ensures.none in
-    (parent_of c.args.table.now.table c.requires.canonical c.args.parents.now c.requires.parents c.loop-sign.at c.loop-sign.invariant.inside no_root).earlier
+pub loop-start-smaller : goal.loop-start-smaller
+loop-start-smaller g c =
+    let net = g.G.Graph.net c.args.graph.now in
+    let no_start : IsNoStart net c.loop-start.at = c.in_default.ensures.none in
+    (parent_of net c.requires.ordered c.args.parents.now c.requires.parents c.loop-start.at c.loop-start.invariant.inside no_start).earlier
 
-pub loop-sign-preserved : goal.loop-sign-preserved
-loop-sign-preserved c =
-    let no_root : IsNoRoot c.args.table.now.table c.loop-sign.at = c.in_default.ensures.none in
-    subst (λ (w : List ℕ). IsWalking c.args.table.now.table c.args.state (slice_index c.args.parents.now c.loop-sign.at) w) (sym c.in-Ok.ensures.items)
-    (walk_more c.args.table.now.table c.requires.canonical c.args.parents.now c.requires.parents c.args.state c.loop-sign.at c.first_letter.result c.loop-sign.letters.items no_root c.first_letter.ensures c.loop-sign.invariant)
+pub loop-start-preserved : goal.loop-start-preserved
+loop-start-preserved g c =
+    let net = g.G.Graph.net c.args.graph.now in
+    let no_start : IsNoStart net c.loop-start.at = c.in_default.ensures.none in
+    subst (λ (w : List ℕ). IsWalking net c.args.state (slice_index c.args.parents.now c.loop-start.at) w) (sym c.in-Ok.ensures.items)
+    (walk_more net c.requires.ordered c.args.parents.now c.requires.parents c.args.state c.loop-start.at c.first_letter.result c.loop-start.letters.items
+    no_start c.first_letter.ensures c.loop-start.invariant)

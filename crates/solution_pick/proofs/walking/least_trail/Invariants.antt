@@ -1,8 +1,8 @@
 use Rattle.solution_pick.proofs.Walked.{IsWalking}
 use Rattle.solution_pick.proofs.walking.least_trail.Given as goal
 
-abbrev pub invariant-loop-sign : goal.invariant-loop-sign
-invariant-loop-sign l = IsWalking l.table.table l.state l.at l.letters.items
+abbrev pub invariant-loop-start : goal.invariant-loop-start
+invariant-loop-start g l = IsWalking (g.G.Graph.net l.graph) l.state l.at l.letters.items
 
-abbrev pub decreases-loop-sign : goal.decreases-loop-sign
-decreases-loop-sign l = l.at
+abbrev pub decreases-loop-start : goal.decreases-loop-start
+decreases-loop-start g l = l.at

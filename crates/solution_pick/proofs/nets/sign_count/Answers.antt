@@ -1,7 +1,7 @@
 -- Since the base is at least 2, the sign vectors are at most as many as the letters.
 use Rattle.std.proofs.Common.{◌^◌, ap, arith}
 use Rattle.std.proofs.Math.Nat.{pow-le-pow_left}
-use Rattle.solution_pick.proofs.scans.sign_count.Goals as goal
+use Rattle.solution_pick.proofs.nets.sign_count.Goals as goal
 
 pub pow-count-requires : goal.pow-count-requires
 pow-count-requires c =
