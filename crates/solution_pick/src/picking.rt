@@ -1,9 +1,8 @@
-//! The fixed solution of a canonical diagram: its least accepted word, shorter words first, then lower sign vectors, then letters.
-//! States are numbered by their least paths, so the first state whose output is yes has the least accepted path. Costs one look at
-//! each cell.
+//! The fixed solution of a canonical table, and membership. Of a diagram it is the least accepted word: states are numbered by their
+//! least paths, so the first state whose output is yes has it. Costs one look at each cell.
 
 ghost use Rattle.std.specs.Prelude.{◌≡◌, [], ◌∷◌, ◌<◌, IfOk, IfNone, IfSome};
-ghost use Rattle.lash_model.specs.Acceptance.{accepts_word};
+ghost use Rattle.lash_model.specs.Acceptance.{accepts_word, accepts_lasso};
 ghost use Rattle.lash_model.specs.Lassos.{IsLasso};
 ghost use Rattle.lash_model.specs.Tables.{fracs, IsDiagram};
 ghost use Rattle.canonical_laws.specs.Canonical.{IsCanonical};
@@ -88,8 +87,7 @@ fn solution_of(alloc: Global, table: &Table<Packed>) -> Result<Option<Lasso>, Me
     }
 }
 
-/// The fixed solution of a table of either kind that is known to be canonical: of a diagram its least accepted word with the letter 0
-/// without end, of a table with fraction states the one of `fraction_solution`. The one error is Memory: out of memory.
+/// The same of either kind, for a table that is known to be canonical.
 fn table_solution(alloc: Global, table: &Table<Packed>) -> Result<Option<Lasso>, Memory>
     requires { IsCanonicalTable table.now.table }
     ensures none { IsDiagram table.now.table → IfOk result (λ found. IfNone found (AcceptsNothing table.now.table)) }
@@ -106,23 +104,28 @@ fn table_solution(alloc: Global, table: &Table<Packed>) -> Result<Option<Lasso>,
     fraction_solution(alloc, table)
 }
 
-/// The fixed solution of a canonical diagram: a sign vector and a whole word that it accepts, such that none is less, by length,
-/// then sign vector, then letters; the fraction is zero. None exactly where it accepts nothing. Fails only for want of memory.
+/// The fixed solution of a canonical table, None exactly if it accepts nothing. Of a diagram it is a sign vector and a whole word that it
+/// accepts, such that none is less, by length, then sign vector, then letters, with the fraction zero. Of a table with fraction states
+/// it is the least such pair to an output from which some lasso is accepted, the least stem from there to a looping state of colour yes,
+/// and the least cycle of that state. Fails only if memory runs out.
 pub fn solution(alloc: Global, canon: &Canon) -> Result<Option<Lasso>, Memory>
-    ensures none { IfOk result (λ found. IfNone found (AcceptsNothing canon.now.table)) }
-    ensures least { IfOk result (λ found. IfSome found (λ x. IsLeastAccepted canon.now.table x.sign x.whole)) }
-    ensures range { IfOk result (λ found. IfSome found (λ x. IsLasso canon.now.table.base canon.now.table.tracks (lasso_of x))) }
-    ensures stem { IfOk result (λ found. IfSome found (λ x. x.stem ≡ [])) }
-    ensures cycle { IfOk result (λ found. IfSome found (λ x. x.cycle ≡ 0 ∷ [])) }
+    ensures none { IsDiagram canon.now.table → IfOk result (λ found. IfNone found (AcceptsNothing canon.now.table)) }
+    ensures least { IsDiagram canon.now.table → IfOk result (λ found. IfSome found (λ x. IsLeastAccepted canon.now.table x.sign x.whole)) }
+    ensures range { IsDiagram canon.now.table → IfOk result (λ found. IfSome found (λ x. IsLasso canon.now.table.base canon.now.table.tracks (lasso_of x))) }
+    ensures stem { IsDiagram canon.now.table → IfOk result (λ found. IfSome found (λ x. x.stem ≡ [])) }
+    ensures cycle { IsDiagram canon.now.table → IfOk result (λ found. IfSome found (λ x. x.cycle ≡ 0 ∷ [])) }
+    ensures no_lasso { 0 < fracs canon.now.table → IfOk result (λ found. IfNone found (AcceptsNoLasso canon.now.table)) }
+    ensures fixed { 0 < fracs canon.now.table → IfOk result (λ found. IfSome found (λ x. IsFixedSolution canon.now.table (lasso_of x))) }
 {
     table_solution(alloc, canon.table())
 }
 
-/// Whether a canonical diagram accepts a lasso, which is in range: the output behind its sign vector and its whole word. A diagram
-/// does not look at the fraction. Takes no memory.
+/// Whether a canonical table accepts a lasso, which is in range. A diagram looks at its output after the sign vector and the whole word,
+/// and not at the fraction. Takes no memory.
 pub fn member(canon: &Canon, lasso: &Lasso) -> bool
     requires { IsLasso canon.now.table.base canon.now.table.tracks (lasso_of lasso.now) }
-    ensures { result ≡ accepts_word canon.now.table lasso.now.sign lasso.now.whole }
+    ensures diagram { IsDiagram canon.now.table → result ≡ accepts_word canon.now.table lasso.now.sign lasso.now.whole }
+    ensures fractions { 0 < fracs canon.now.table → result ≡ accepts_lasso canon.now.table (lasso_of lasso.now) }
 {
     canon.table().accepts(lasso)
 }
