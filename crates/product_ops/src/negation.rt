@@ -46,11 +46,14 @@ pub fn complement<C: Cells>(table: &mut Table<C>)
     ensures changed { IsDiagram table.old.table → table.new ≡ record table.old { table = negated table.old.table } }
     ensures canonical { IsCanonical table.old.table → IsCanonical table.new.table }
     ensures words { IsDiagram table.old.table → AcceptsOthers table.old.table table.new.table }
-    ensures stands { (f : Formula) (s : List ℤ → List ℤ) → StandsForWhole table.old.table (set_of f s) → StandsForWhole table.new.table (λ ns d. set_of f s ns d → ⊥) }
+    ensures stands { (f : Formula) (s : List ℤ → List ℤ) → StandsForWhole table.old.table (set_of f s)
+        → StandsForWhole table.new.table (λ ns d. set_of f s ns d → ⊥) }
     ensures recoloured { 0 < fracs table.old.table → table.new ≡ record table.old { table = opposite table.old.table } }
-    ensures weak { 0 < fracs table.old.table → IsWeak (letters table.old.table) (fraction_graph table.old.table) → IsWeak (letters table.new.table) (fraction_graph table.new.table) }
+    ensures weak { 0 < fracs table.old.table → IsWeak (letters table.old.table) (fraction_graph table.old.table)
+        → IsWeak (letters table.new.table) (fraction_graph table.new.table) }
     ensures lassos { 0 < fracs table.old.table → AcceptOtherLassos table.old.table table.new.table }
-    ensures stands_mixed { (f : Formula) (s : List ℤ → List ℤ) → StandsForMixed table.old.table (set_of f s) → StandsForMixed table.new.table (λ ns d. set_of f s ns d → ⊥) }
+    ensures stands_mixed { (f : Formula) (s : List ℤ → List ℤ) → StandsForMixed table.old.table (set_of f s)
+        → StandsForMixed table.new.table (λ ns d. set_of f s ns d → ⊥) }
     ensures table { IsTable table.new.table }
 {
     if table.fracs() == 0 {

@@ -92,14 +92,8 @@ impl<'a, C: Cells> Reader<'a, C> {
         ensures operand { IfOk result (λ r. IsOperand r) }
     {
         let _letters = table.letters();
-        let letters = match read_letters(alloc, table.base(), tracks, places) {
-            Ok(letters) => letters,
-            Err(Memory) => return Err(Memory),
-        };
-        let signs = match read_letters(alloc, sign_base(), tracks, places) {
-            Ok(signs) => signs,
-            Err(Memory) => return Err(Memory),
-        };
+        let letters = read_letters(alloc, table.base(), tracks, places)?;
+        let signs = read_letters(alloc, sign_base(), tracks, places)?;
         Ok(Reader {
             table,
             tracks,

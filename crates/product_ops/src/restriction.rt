@@ -53,10 +53,7 @@ fn ends_of_zeros<C: Cells>(alloc: Global, table: &Table<C>) -> Result<Vec<u32>, 
     ensures ends { IfOk result (λ v. AreEnds table.now.table.frac_rows (letters table.now.table) (fracs table.now.table) v.items) }
 {
     let _letters = table.letters();
-    let mut ends = match after_one_zero(alloc, table) {
-        Ok(ends) => ends,
-        Err(Memory) => return Err(Memory),
-    };
+    let mut ends = after_one_zero(alloc, table)?;
     let mut zeros = 1;
     while zeros < table.fracs() {
         double(ends.as_mut_slice());
@@ -90,7 +87,8 @@ fn copy_row<C: Cells>(source: &Table<C>, table: &mut Table<Plain>, state: u32)
 /// Copies the rows of the integer states.
 fn copy_rows<C: Cells>(source: &Table<C>, table: &mut Table<Plain>)
     requires start { table.old ≡ plain (filled (restricted source.now.table) (2 ^ source.now.table.tracks) 0 0) }
-    ensures copied { table.new ≡ plain (filled (restricted source.now.table) (2 ^ source.now.table.tracks) (ints source.now.table * letters source.now.table) 0) }
+    ensures copied { table.new ≡ plain (filled (restricted source.now.table) (2 ^ source.now.table.tracks)
+        (ints source.now.table * letters source.now.table) 0) }
 {
     for state in 0..source.ints() {
         copy_row(source, table, state);
@@ -118,7 +116,8 @@ fn fill_outs<C: Cells>(source: &Table<C>, ends: &[u32], table: &mut Table<Plain>
     requires weak { IsWeak (letters source.now.table) (fraction_graph source.now.table) }
     requires count { length ends.now ≡ fracs source.now.table }
     requires ends { AreEnds source.now.table.frac_rows (letters source.now.table) (fracs source.now.table) ends.now }
-    requires start { table.old ≡ plain (filled (restricted source.now.table) (2 ^ source.now.table.tracks) (ints source.now.table * letters source.now.table) 0) }
+    requires start { table.old ≡ plain (filled (restricted source.now.table) (2 ^ source.now.table.tracks)
+        (ints source.now.table * letters source.now.table) 0) }
     ensures restricted { table.new ≡ plain (restricted source.now.table) }
 {
     let _letters = source.letters();
@@ -138,17 +137,12 @@ pub fn restrict_to_ints<C: Cells>(alloc: Global, table: &Table<C>) -> Result<Tab
     ensures base { IfOk result (λ t. t.table.base ≡ table.now.table.base) }
     ensures tracks { IfOk result (λ t. t.table.tracks ≡ table.now.table.tracks) }
     ensures words { IfOk result (λ t. AcceptsWholes table.now.table t.table) }
-    ensures stands { IfOk result (λ t. (f : Formula) (s : List ℤ → List ℤ) → KeepsScale s → StandsForMixed table.now.table (set_of f s) → StandsForWhole t.table (set_of f s)) }
+    ensures stands { IfOk result (λ t. (f : Formula) (s : List ℤ → List ℤ) → KeepsScale s → StandsForMixed table.now.table (set_of f s)
+        → StandsForWhole t.table (set_of f s)) }
 {
     let _letters = table.letters();
-    let ends = match ends_of_zeros(alloc, table) {
-        Ok(ends) => ends,
-        Err(Memory) => return Err(Memory),
-    };
-    let mut whole = match Table::blank(alloc, table.base(), table.tracks(), table.ints(), 0) {
-        Ok(whole) => whole,
-        Err(Memory) => return Err(Memory),
-    };
+    let ends = ends_of_zeros(alloc, table)?;
+    let mut whole = Table::blank(alloc, table.base(), table.tracks(), table.ints(), 0)?;
     copy_roots(table, &mut whole);
     copy_rows(table, &mut whole);
     fill_outs(table, ends.as_slice(), &mut whole);

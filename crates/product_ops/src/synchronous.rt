@@ -88,15 +88,9 @@ fn of_diagrams<A: Cells, B: Cells>(
     ensures pairs { IfOk result (λ t. IsPairTable op left.now.table right.now.table map.now limit t.table) }
     ensures heavy { IfErr result (λ e. e ≡ BuildError.Heavy → IsHeavy (pairs left.now.table right.now.table map.now) limit) }
 {
-    let (left_reader, right_reader) = match readers(alloc, left, right, map) {
-        Ok(both) => both,
-        Err(error) => return Err(error),
-    };
-    let mut pairs = Pairs::new(&left_reader, &right_reader);
-    let found = match explored(alloc, &mut pairs, limit) {
-        Ok(found) => found,
-        Err(error) => return Err(error),
-    };
+    let both = readers(alloc, left, right, map)?;
+    let mut pairs = Pairs::new(&both.0, &both.1);
+    let found = explored(alloc, &mut pairs, limit)?;
     let outputs = PairOutputs { op, left, right };
     match Table::of_explored(alloc, left.base(), map.tracks(), &found, &outputs) {
         Ok(made) => Ok(made),
@@ -129,16 +123,13 @@ fn of_weak_tables<A: Cells, B: Cells>(
     ensures heavy { IfErr result (λ e. e ≡ BuildError.Heavy → IsHeavyInTwo (pairs left.now.table right.now.table map.now)
         (outs_of left.now.table right.now.table) (fraction_pairs left.now.table right.now.table map.now) limit) }
 {
-    let (left_reader, right_reader) = match readers(alloc, left, right, map) {
-        Ok(both) => both,
-        Err(error) => return Err(error),
-    };
-    let mut pairs = Pairs::new(&left_reader, &right_reader);
+    let both = readers(alloc, left, right, map)?;
+    let mut pairs = Pairs::new(&both.0, &both.1);
     let whole = match explored(alloc, &mut pairs, limit) {
         Ok(whole) => whole,
         Err(error) => return Err(error),
     };
-    let mut pairs = FractionPairs::new(&left_reader, &right_reader, &whole);
+    let mut pairs = FractionPairs::new(&both.0, &both.1, &whole);
     let fraction = match explored(alloc, &mut pairs, limit - whole.cells()) {
         Ok(fraction) => fraction,
         Err(error) => return Err(error),

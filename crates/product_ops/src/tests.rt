@@ -34,10 +34,7 @@ fn set_row(rt: &impl Abort, table: &mut Table<Plain>, state: u32, row: [u32; 3])
 fn at_most_three(rt: &impl Abort, alloc: Global, two: Base) -> Result<Table<Plain>, Memory>
     requires { two ≡ 2 }
 {
-    let mut table = match Table::<Plain>::blank(alloc, two, 1, 5, 0) {
-        Ok(table) => table,
-        Err(Memory) => return Err(Memory),
-    };
+    let mut table = Table::<Plain>::blank(alloc, two, 1, 5, 0)?;
     table.set_root(1, 1);
     set_row(rt, &mut table, 0, [1, 0, 2]);
     set_row(rt, &mut table, 1, [1, 1, 1]);
@@ -51,10 +48,7 @@ fn at_most_three(rt: &impl Abort, alloc: Global, two: Base) -> Result<Table<Plai
 fn not_negative(rt: &impl Abort, alloc: Global, two: Base) -> Result<Table<Plain>, Memory>
     requires { two ≡ 2 }
 {
-    let mut table = match Table::<Plain>::blank(alloc, two, 1, 2, 0) {
-        Ok(table) => table,
-        Err(Memory) => return Err(Memory),
-    };
+    let mut table = Table::<Plain>::blank(alloc, two, 1, 2, 0)?;
     table.set_root(1, 1);
     set_row(rt, &mut table, 0, [1, 0, 0]);
     set_row(rt, &mut table, 1, [0, 1, 1]);
@@ -98,10 +92,7 @@ fn map_of(alloc: Global, tracks: u32, left: u32, right: u32) -> Result<TrackMap,
     requires left { left < tracks }
     requires right { right < tracks }
 {
-    let first = match one_place(alloc, tracks, left) {
-        Ok(first) => first,
-        Err(Memory) => return Err(Memory),
-    };
+    let first = one_place(alloc, tracks, left)?;
     match one_place(alloc, tracks, right) {
         Ok(second) => Ok(TrackMap::new(tracks, first, second)),
         Err(Memory) => Err(Memory),

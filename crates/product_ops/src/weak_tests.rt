@@ -37,10 +37,7 @@ fn set_states(rt: &impl Abort, table: &mut Table<Plain>, state: u32, row: [u32; 
 fn zero(rt: &impl Abort, alloc: Global, two: Base) -> Result<Table<Plain>, Memory>
     requires { two ≡ 2 }
 {
-    let mut table = match Table::<Plain>::blank(alloc, two, 1, 3, 3) {
-        Ok(table) => table,
-        Err(Memory) => return Err(Memory),
-    };
+    let mut table = Table::<Plain>::blank(alloc, two, 1, 3, 3)?;
     table.set_root(1, 1);
     set_states(rt, &mut table, 0, ROWS[0], true);
     set_states(rt, &mut table, 1, ROWS[1], true);
@@ -52,7 +49,8 @@ fn zero(rt: &impl Abort, alloc: Global, two: Base) -> Result<Table<Plain>, Memor
 fn is_fine(table: &Table<Plain>, state: u32) -> bool
     requires letters { letters table.now.table ≡ 2 }
     requires state { state < fracs table.now.table }
-    ensures { IsTrue result → (slice_index table.now.table.colours state ≡ 1) ⊎ ((slice_index table.now.table.frac_rows (state * 2 + 0) ≡ state) × (slice_index table.now.table.frac_rows (state * 2 + 1) ≡ state)) }
+    ensures { IsTrue result → (slice_index table.now.table.colours state ≡ 1)
+        ⊎ ((slice_index table.now.table.frac_rows (state * 2 + 0) ≡ state) × (slice_index table.now.table.frac_rows (state * 2 + 1) ≡ state)) }
 {
     if table.colour(state) {
         return true;

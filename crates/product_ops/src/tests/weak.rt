@@ -6,7 +6,7 @@ ghost use Rattle.lash_model.specs.Tables.{letters, fracs};
 ghost use Rattle.product_ops.specs.FractionPairs.{IsWeakTable};
 ghost use Rattle.step_tables.specs.Kept.{wide};
 
-use super::map_of;
+use super::{map_of, roots_are};
 use crate::*;
 use digit_codes::Base;
 use lash_io::Memory;
@@ -17,7 +17,7 @@ use std::test::Fail;
 use step_tables::{BuildError, Table};
 
 /// The five lists of a table, row by row.
-#[derive(Drop)]
+#[derive(Clone, Copy)]
 struct Lists<'a> {
     roots: &'a [u32],
     rows: &'a [u32],
@@ -73,10 +73,7 @@ fn table_of(
     let ints = lists.outs.len();
     let fracs = lists.colours.len();
     assert!(rt; base.radix() <= 3 && 0 < ints && ints < 10 && fracs < 10);
-    let mut table = match Table::<Plain>::blank(alloc, base, 1, ints as u32, fracs as u32) {
-        Ok(table) => table,
-        Err(Memory) => return Err(Memory),
-    };
+    let mut table = Table::<Plain>::blank(alloc, base, 1, ints as u32, fracs as u32)?;
     for sign in 0..2u32 {
         let root = entry(lists.roots, 1, sign, 0);
         assert!(rt; table.tracks() == 1 && root < table.ints());
@@ -148,20 +145,13 @@ fn made(
     product(alloc, left, right, map, op, limit)
 }
 
-fn roots_are(rt: &impl Abort, table: &Table<Plain>, roots: &[u32]) {
-    assert!(rt; table.tracks() <= 2 && 2usize.pow(table.tracks()) == roots.len());
-    for sign in 0..2u32.pow(table.tracks()) {
-        assert_eq!(rt; table.root(sign), roots[sign as usize]);
-    }
-}
-
 fn int_states_are(rt: &impl Abort, table: &Table<Plain>, lists: &Lists) {
     assert!(rt; table.ints() as usize == lists.outs.len());
     for state in 0..table.ints() {
-        assert_eq!(rt; table.out(state), entry(lists.outs, 1, state, 0));
+        assert!(rt; table.out(state) == entry(lists.outs, 1, state, 0));
         for letter in 0..table.letters() {
             let to = entry(lists.rows, table.letters(), state, letter);
-            assert_eq!(rt; table.int_step(state, letter), to);
+            assert!(rt; table.int_step(state, letter) == to);
         }
     }
 }
@@ -169,87 +159,178 @@ fn int_states_are(rt: &impl Abort, table: &Table<Plain>, lists: &Lists) {
 fn frac_states_are(rt: &impl Abort, table: &Table<Plain>, lists: &Lists) {
     assert!(rt; table.fracs() as usize == lists.colours.len());
     for state in 0..table.fracs() {
-        assert_eq!(rt; table.colour(state), entry(lists.colours, 1, state, 0) == 1);
+        assert!(rt; table.colour(state) == (entry(lists.colours, 1, state, 0) == 1));
         for letter in 0..table.letters() {
             let to = entry(lists.frac_rows, table.letters(), state, letter);
-            assert_eq!(rt; table.frac_step(state, letter), to);
+            assert!(rt; table.frac_step(state, letter) == to);
         }
     }
 }
 
-fn is_heavy(made: Result<Table<Plain>, BuildError>) -> bool {
-    match made {
-        Ok(_) => false,
-        Err(error) => error == BuildError::Heavy,
-    }
+/// Two tables of one track each, what is made of them over one track or two, the cells of its first part and of both, and its lists.
+#[derive(Clone, Copy)]
+struct Case<'a> {
+    base: u32,
+    left: Lists<'a>,
+    right: Lists<'a>,
+    tracks: u32,
+    op: Op,
+    cells: [u64; 2],
+    lists: Lists<'a>,
 }
 
-/// The product is within its cells, and heavy at one cell less and at the cells of its first part.
-fn check(
+/// Whether the product passes a limit of cells.
+fn is_heavy(
     rt: &impl Abort,
     alloc: Global,
     tables: (&Table<Plain>, &Table<Plain>),
     map: &TrackMap,
     op: Op,
-    cells: [u64; 2],
-    lists: &Lists,
-) -> Result<(), Fail> {
-    let [first, both] = cells;
+    limit: u64,
+) -> bool {
+    match made(rt, alloc, tables, map, op, limit) {
+        Ok(_) => false,
+        Err(error) => error == BuildError::Heavy,
+    }
+}
+
+/// The product is heavy at one cell less than its own, at the cells of its first part, and at one less than these.
+fn are_heavy(
+    rt: &impl Abort,
+    alloc: Global,
+    tables: (&Table<Plain>, &Table<Plain>),
+    map: &TrackMap,
+    case: &Case,
+) {
+    let [first, both] = case.cells;
     assert!(rt; 0 < first && first <= both);
-    assert!(rt; is_heavy(made(rt, alloc, tables, map, op, first - 1)));
-    assert!(rt; is_heavy(made(rt, alloc, tables, map, op, first)));
-    assert!(rt; is_heavy(made(rt, alloc, tables, map, op, both - 1)));
-    let table = made(rt, alloc, tables, map, op, both)?;
-    roots_are(rt, &table, lists.roots);
-    int_states_are(rt, &table, lists);
-    frac_states_are(rt, &table, lists);
+    for limit in [first - 1, first, both - 1] {
+        assert!(rt; is_heavy(rt, alloc, tables, map, case.op, limit));
+    }
+}
+
+/// The product within its own cells has these lists.
+fn has_lists(
+    rt: &impl Abort,
+    alloc: Global,
+    tables: (&Table<Plain>, &Table<Plain>),
+    map: &TrackMap,
+    case: &Case,
+) -> Result<(), Fail> {
+    let table = made(rt, alloc, tables, map, case.op, case.cells[1])?;
+    roots_are(rt, &table, case.lists.roots);
+    int_states_are(rt, &table, &case.lists);
+    frac_states_are(rt, &table, &case.lists);
     Ok(())
 }
 
-/// x <= 0 and x >= 0, and x <= 0 without x = 0.
-fn over_one_track(
+fn product_is(
     rt: &impl Abort,
     alloc: Global,
-    at_most: &Table<Plain>,
-    at_least: &Table<Plain>,
-    equal: &Table<Plain>,
+    tables: (&Table<Plain>, &Table<Plain>),
+    case: &Case,
 ) -> Result<(), Fail> {
-    let map = map_of(alloc, 1, 0, 0)?;
-    let both = Lists {
+    assert!(rt; 0 < case.tracks);
+    let map = map_of(alloc, case.tracks, 0, case.tracks - 1)?;
+    are_heavy(rt, alloc, tables, &map, case);
+    has_lists(rt, alloc, tables, &map, case)
+}
+
+fn check(rt: &impl Abort, alloc: Global, case: &Case) -> Result<(), Fail> {
+    let base = Base::new(case.base).ok_or("2 and 3 are bases")?;
+    let left = table_of(rt, alloc, base, &case.left)?;
+    let right = table_of(rt, alloc, base, &case.right)?;
+    product_is(rt, alloc, (&left, &right), case)
+}
+
+/// x <= 0 in base 2.
+const AT_MOST: Lists<'static> = Lists {
+    roots: &[1, 0],
+    rows: &[0, 0, 1, 2, 2, 2],
+    outs: &[1, 0, 2],
+    frac_rows: &[0, 2, 1, 1, 2, 2],
+    colours: &[1, 1, 0],
+};
+
+/// x >= 0 in base 2.
+const AT_LEAST: Lists<'static> = Lists {
+    roots: &[0, 1],
+    rows: &[0, 0, 2, 1, 2, 2],
+    outs: &[1, 0, 2],
+    frac_rows: &[2, 0, 1, 1, 2, 2],
+    colours: &[1, 1, 0],
+};
+
+/// x = 0 in base 2.
+const EQUAL: Lists<'static> = Lists {
+    roots: &[2, 1],
+    rows: &[0, 0, 0, 1, 2, 3, 3, 3],
+    outs: &[2, 1, 0, 2],
+    frac_rows: &[0, 2, 2, 1, 2, 2],
+    colours: &[1, 1, 0],
+};
+
+/// x = 0 in base 3.
+const EQUAL_IN_THREE: Lists<'static> = Lists {
+    roots: &[2, 1],
+    rows: &[0, 0, 0, 0, 0, 1, 2, 3, 3, 3, 3, 3],
+    outs: &[2, 1, 0, 2],
+    frac_rows: &[0, 2, 2, 2, 2, 1, 2, 2, 2],
+    colours: &[1, 1, 0],
+};
+
+/// The whole numbers in base 3.
+const WHOLE: Lists<'static> = Lists {
+    roots: &[0, 0],
+    rows: &[0, 0, 0],
+    outs: &[0],
+    frac_rows: &[1, 3, 2, 1, 3, 3, 3, 3, 2, 3, 3, 3],
+    colours: &[1, 1, 1, 0],
+};
+
+/// x <= 0 and x >= 0.
+const BOTH: Case<'static> = Case {
+    base: 2,
+    left: AT_MOST,
+    right: AT_LEAST,
+    tracks: 1,
+    op: Op::And,
+    cells: [20, 40],
+    lists: Lists {
         roots: &[0, 1],
         rows: &[0, 2, 3, 1, 2, 2, 3, 3],
         outs: &[0, 1, 2, 3],
         frac_rows: &[0, 2, 3, 1, 2, 2, 3, 3],
         colours: &[1, 1, 0, 0],
-    };
-    check(
-        rt,
-        alloc,
-        (at_most, at_least),
-        &map,
-        Op::And,
-        [20, 40],
-        &both,
-    )?;
-    let first_alone = Lists {
+    },
+};
+
+/// x <= 0 without x = 0.
+const FIRST_ALONE: Case<'static> = Case {
+    base: 2,
+    left: AT_MOST,
+    right: EQUAL,
+    tracks: 1,
+    op: Op::AndNot,
+    cells: [20, 40],
+    lists: Lists {
+        roots: &[0, 1],
+        rows: &[0, 2, 3, 1, 2, 2, 3, 3],
+        outs: &[0, 1, 2, 3],
+        frac_rows: &[0, 2, 3, 1, 2, 2, 3, 3],
         colours: &[0, 0, 0, 1],
-        ..both
-    };
-    check(
-        rt,
-        alloc,
-        (at_most, equal),
-        &map,
-        Op::AndNot,
-        [20, 40],
-        &first_alone,
-    )
-}
+    },
+};
 
 /// x <= 0 and y <= 0.
-fn over_two_tracks(rt: &impl Abort, alloc: Global, at_most: &Table<Plain>) -> Result<(), Fail> {
-    let map = map_of(alloc, 2, 0, 1)?;
-    let both = Lists {
+const OF_TWO_TRACKS: Case<'static> = Case {
+    base: 2,
+    left: AT_MOST,
+    right: AT_MOST,
+    tracks: 2,
+    op: Op::And,
+    cells: [63, 126],
+    lists: Lists {
         roots: &[0, 1, 2, 3],
         rows: &[
             0, 4, 5, 6, 1, 1, 7, 7, 2, 8, 2, 8, 3, 3, 3, 3, 4, 4, 6, 6, 5, 6, 5, 6, 6, 6, 6, 6, 7,
@@ -261,27 +342,18 @@ fn over_two_tracks(rt: &impl Abort, alloc: Global, at_most: &Table<Plain>) -> Re
             7, 7, 7, 8, 8, 8, 8,
         ],
         colours: &[1, 1, 1, 1, 0, 0, 0, 0, 0],
-    };
-    check(
-        rt,
-        alloc,
-        (at_most, at_most),
-        &map,
-        Op::And,
-        [63, 126],
-        &both,
-    )
-}
+    },
+};
 
 /// x = 0 or x is whole, in base 3: four pairs of integer states, and eight of fraction states.
-fn in_base_three(
-    rt: &impl Abort,
-    alloc: Global,
-    equal: &Table<Plain>,
-    whole: &Table<Plain>,
-) -> Result<(), Fail> {
-    let map = map_of(alloc, 1, 0, 0)?;
-    let either = Lists {
+const EITHER: Case<'static> = Case {
+    base: 3,
+    left: EQUAL_IN_THREE,
+    right: WHOLE,
+    tracks: 1,
+    op: Op::Or,
+    cells: [24, 72],
+    lists: Lists {
         roots: &[0, 1],
         rows: &[0, 2, 2, 3, 3, 1, 2, 2, 2, 3, 3, 3],
         outs: &[0, 1, 2, 2],
@@ -289,61 +361,13 @@ fn in_base_three(
             3, 4, 5, 6, 4, 7, 6, 4, 5, 3, 4, 4, 4, 4, 4, 4, 4, 5, 6, 4, 4, 4, 4, 7,
         ],
         colours: &[1, 1, 1, 1, 0, 1, 1, 1],
-    };
-    check(rt, alloc, (equal, whole), &map, Op::Or, [24, 72], &either)
-}
+    },
+};
 
 #[test]
-fn products_in_base_two(rt: HostRuntime) -> Result<(), Fail> {
-    let alloc = rt.alloc();
-    let two = Base::new(2).ok_or("2 is a base")?;
-    let at_most = Lists {
-        roots: &[1, 0],
-        rows: &[0, 0, 1, 2, 2, 2],
-        outs: &[1, 0, 2],
-        frac_rows: &[0, 2, 1, 1, 2, 2],
-        colours: &[1, 1, 0],
-    };
-    let at_least = Lists {
-        roots: &[0, 1],
-        rows: &[0, 0, 2, 1, 2, 2],
-        outs: &[1, 0, 2],
-        frac_rows: &[2, 0, 1, 1, 2, 2],
-        colours: &[1, 1, 0],
-    };
-    let equal = Lists {
-        roots: &[2, 1],
-        rows: &[0, 0, 0, 1, 2, 3, 3, 3],
-        outs: &[2, 1, 0, 2],
-        frac_rows: &[0, 2, 2, 1, 2, 2],
-        colours: &[1, 1, 0],
-    };
-    let at_most = table_of(&rt, alloc, two, &at_most)?;
-    let at_least = table_of(&rt, alloc, two, &at_least)?;
-    let equal = table_of(&rt, alloc, two, &equal)?;
-    over_one_track(&rt, alloc, &at_most, &at_least, &equal)?;
-    over_two_tracks(&rt, alloc, &at_most)
-}
-
-#[test]
-fn products_in_base_three(rt: HostRuntime) -> Result<(), Fail> {
-    let alloc = rt.alloc();
-    let three = Base::new(3).ok_or("3 is a base")?;
-    let equal = Lists {
-        roots: &[2, 1],
-        rows: &[0, 0, 0, 0, 0, 1, 2, 3, 3, 3, 3, 3],
-        outs: &[2, 1, 0, 2],
-        frac_rows: &[0, 2, 2, 2, 2, 1, 2, 2, 2],
-        colours: &[1, 1, 0],
-    };
-    let whole = Lists {
-        roots: &[0, 0],
-        rows: &[0, 0, 0],
-        outs: &[0],
-        frac_rows: &[1, 3, 2, 1, 3, 3, 3, 3, 2, 3, 3, 3],
-        colours: &[1, 1, 1, 0],
-    };
-    let equal = table_of(&rt, alloc, three, &equal)?;
-    let whole = table_of(&rt, alloc, three, &whole)?;
-    in_base_three(&rt, alloc, &equal, &whole)
+fn products_of_weak_tables(rt: HostRuntime) -> Result<(), Fail> {
+    for case in [&BOTH, &FIRST_ALONE, &OF_TWO_TRACKS, &EITHER] {
+        check(&rt, rt.alloc(), case)?;
+    }
+    Ok(())
 }

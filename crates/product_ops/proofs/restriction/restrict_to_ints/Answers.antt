@@ -4,14 +4,14 @@ use Rattle.lash_model.specs.Standing.{StandsForWhole}
 use Rattle.lash_model.proofs.FractionSets.{set_of_fractions}
 use Rattle.lash_model.specs.Tables.{ints}
 use Rattle.step_tables.specs.Kept.{Kept, plain, zeros}
-use Rattle.product_ops.specs.Restriction.{restricted, AcceptsWholes}
+use Rattle.product_ops.specs.Restriction.{AcceptsWholes}
 use Rattle.product_ops.proofs.Copying.{none_filled}
 use Rattle.product_ops.proofs.Zeros.{restricted_accepts, restricted_stands}
 use Rattle.product_ops.proofs.restriction.restrict_to_ints.Goals as goal
 
 pub copy_roots-requires : goal.copy_roots-requires
 copy_roots-requires g c =
-    let blank : c.in-Ok-blank.whole ≡ plain (zeros c.args.table.now.table.base c.args.table.now.table.tracks (ints c.args.table.now.table) 0) = search rules in
+    let blank : c.in_ok-whole.whole ≡ plain (zeros c.args.table.now.table.base c.args.table.now.table.tracks (ints c.args.table.now.table) 0) = search rules in
     record { start = blank ∙ none_filled c.args.table.now.table c.letters-letters.ensures.table }
 
 pub returns-clause-words : goal.returns-clause-words
