@@ -11,7 +11,7 @@ pub record IsFilled (f : ℕ → ℤ) (at : ℕ) (xs : List ℤ) : Type 0 where
   pub count : length xs ≡ at
   pub each : (j : ℕ) → j < at → get_or xs j (pos 0) ≡ f j
 
--- a list of rows, one behind the other
+-- a list of rows, one after the other
 pub filled_row : (f : ℕ → ℕ → ℤ) (side n : ℕ) (xs : List ℤ) → IsFilled (λ j. f (j / side) (j % side)) n xs → n ≡ side * side → (row column : ℕ) → row < side → column < side → get_or xs (row * side + column) (pos 0) ≡ f row column
 filled_row f side n xs h is row column r c =
     let inside : row * side + column < n = omega (arith, is, mul-add-lt row side column side r c) in
@@ -35,7 +35,7 @@ filled_product a b side n xs side_is is h = record {
   entries_are = λ row column r c. filled_row (product_entry a b) side n xs h is row column (omega (arith, r, side_is)) (omega (arith, c, side_is));
 }
 
--- where two entries are read, they are the same in matrices with the same entries
+-- if two entries are read, they are the same in matrices with the same entries
 pub same_read : (s a o b : Square) (at : ℕ) (x y : ℤ) → a ≡ s → b ≡ o → IsSquare a → IsSquare b → o.side ≡ s.side → at < length a.entries → x ≡ get_or a.entries at x → y ≡ get_or b.entries at y → HaveSameEntries s o → x ≡ y
 same_read s a o b at x y a_is b_is a_square b_square same_side inside x_is y_is same =
     let sides : b.side ≡ a.side = ap (λ c. c.side) b_is ∙ same_side ∙ sym (ap (λ c. c.side) a_is) in

@@ -30,7 +30,7 @@ pub next_of_powers : (a m c : Square) (ms : List Square) (k : ℕ) → ArePowers
 next_of_powers a m c ms k are is read product =
     subst (λ n. IsPowerOf a n c) is (next_power a m c k (subst (IsPowerOf a k) (sym read) (are.each k m (omega (arith, is)))) product)
 
--- two of the powers are the same where their entries are
+-- two of the powers are the same if their entries are
 pub same_powers : (a : Square) (ms : List Square) (p q : ℕ) (d e : Square) → ArePowers a ms → p < length ms → q < length ms → HaveSameEntries (get_or ms p d) (get_or ms q e) → (row column : ℕ) → row < a.side → column < a.side → power_entry a q row column ≡ power_entry a p row column
 same_powers a ms p q d e are in_p in_q same row column r c =
     let first = are.each p d in_p in

@@ -1,4 +1,4 @@
--- The sums of a shift's images, turn by turn.
+-- The sums of a shift's images, iteration by iteration.
 use Rattle.std.proofs.Common.{◌≡◌, ℕ, zero, suc, ◌+◌, ◌*◌, ◌^◌, ◌<◌, ◌≤◌, List, [], ◌∷◌, ◌++◌, length, get_or, replicate, arith, refl, ap, ap₂, ◌∙◌, sym, subst, inl, inr, unsigned_abs}
 use Rattle.std.proofs.Math.IntN.{ℤ, pos, ◌+ℤ◌, ◌-ℤ◌, ◌*ℤ◌}
 use Rattle.std.proofs.lemmas.Bool.{cases_lt}
@@ -41,7 +41,7 @@ no_turns a shift ns is = record {
   small = record { within = λ row r. rw is (rw (get_or-replicate a.side row (pos 0) (pos 0) (omega (arith, r, ap length is, length-replicate a.side (pos 0)))) (omega arith)) };
 }
 
--- one turn more
+-- one iteration more
 pub turned : (a m : Square) (shift sum next : List ℤ) (k e : ℕ) → IsSquare a → IsShift a.side shift → IsSmallPower a k → ((row column : ℕ) → row < a.side → column < a.side → power_entry a k row column ≡ power_entry a e row column) → IsPowerOf a e m → IsSumOf a shift k sum → IsNextSum m shift sum next → IsSumOf a shift (k + 1) next
 turned a m shift sum next k e square b small same is before h = record {
   whole = h.same_length ∙ before.whole;
@@ -60,7 +60,7 @@ turned a m shift sum next k e square b small same is before h = record {
         let parts = h.rows_are row (omega (arith, r, before.whole)) ∙ ap (λ y. at_row sum row +ℤ y) (image_is a m shift k row power_is r) in
         omega (arith, ap unsigned_abs parts, sum_abs (at_row sum row) (carried a shift k row), before.small.within row (omega (arith, r, before.whole)), carried_small a shift k row square.few b small r)
 
--- the sums of up to so many turns
+-- the sums of up to so many iterations
 pub record IsTurning (a : Square) (shift : List ℤ) (turns : ℕ) (sums : List (List ℤ)) : Type 0 where
   pub are : AreSums a shift sums
   pub count : length sums ≡ turns + 1
@@ -102,7 +102,7 @@ stride_bound n x y z w e h k =
     let parts : x -ℤ z ≡ (y -ℤ z) +ℤ w = omega (arith, ints, e) in
     omega (arith, ap unsigned_abs parts, sum_abs (y -ℤ z) w, h, k)
 
--- p more turns add at most p images
+-- p more iterations add at most p images
 pub stride_small : (a : Square) (shift : List ℤ) (row n k m : ℕ) → a.side ≤ 4 → IsShift a.side shift → ((i : ℕ) → i < m → IsSmallPower a i) → row < a.side → m ≡ k + n → unsigned_abs (shifted a shift m row -ℤ shifted a shift k row) ≤ n * 2 ^ 82
 stride_small a shift row zero k m few b small r is = rw (ap (λ i. shifted a shift i row) is') (omega (arith, ints))
   where

@@ -1,7 +1,7 @@
 -- Square matrices of integers and their powers (the usual definitions).
 use Rattle.std.specs.Prelude.{◌≡◌, ℕ, zero, suc, ◌+◌, ◌*◌, ◌≤◌, nat_eq, Bool, true, false, List, length, slice_index_or, ℤ, pos, ◌+ℤ◌, ◌*ℤ◌}
 
--- the entries of the rows, one row behind the other
+-- the entries of the rows, row by row
 pub record Square : Type 0 where
   pub side : ℕ
   pub entries : List ℤ
@@ -21,7 +21,7 @@ unfoldable pub sum_below : ℕ → (ℕ → ℤ) → ℤ
 sum_below zero f = pos 0
 sum_below (suc n) f = sum_below n f +ℤ f n
 
--- 1 where it holds, else 0
+-- 1 if it holds, else 0
 abbrev pub one_where : Bool → ℤ
 one_where true = pos 1
 one_where false = pos 0

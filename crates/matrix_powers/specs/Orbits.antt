@@ -1,4 +1,4 @@
--- Where turns of an affine map lead. After k turns x ↦ A x + b the vector is A ^ k x + (b + A b + .. + A ^ (k - 1) b).
+-- Where iterations of an affine map lead. After k iterations x ↦ A x + b the vector is A ^ k x + (b + A b + .. + A ^ (k - 1) b).
 use Rattle.std.specs.Prelude.{ℕ, ◌+◌, ◌≤◌, ◌^◌, ◌≡◌, List, All, length, slice_index_or, ℤ, pos, ◌-ℤ◌, ◌*ℤ◌, unsigned_abs}
 use Rattle.matrix_powers.specs.Matrices.{Square, power_entry, sum_below}
 
@@ -14,7 +14,7 @@ carried a shift k row = sum_below a.side (λ i. power_entry a k row i *ℤ at_ro
 abbrev pub shifted : Square → List ℤ → ℕ → ℕ → ℤ
 shifted a shift k row = sum_below k (λ i. carried a shift i row)
 
--- how far p more turns lead at the row, where p + j turns or more were made, j of them beyond a multiple of p
+-- how far p more iterations lead at the row, if p + j iterations or more were made, j of them beyond a multiple of p
 abbrev pub stride : Square → List ℤ → ℕ → ℕ → ℕ → ℤ
 stride a shift p j row = shifted a shift (p + p + j) row -ℤ shifted a shift (p + j) row
 

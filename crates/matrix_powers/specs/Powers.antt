@@ -1,4 +1,4 @@
--- The numbers of turns after which the powers of a matrix come again (own). With A ^ (2 p) = A ^ p all powers from p on do, every p.
+-- The numbers of iterations after which the powers of a matrix come again (own). With A ^ (2 p) = A ^ p all powers from p on do, every p.
 use Rattle.std.specs.Prelude.{◌≡◌, ℕ, ◌+◌, ◌^◌, ◌<◌, ◌≤◌, unsigned_abs, Option, None, Some}
 use Rattle.matrix_powers.specs.Matrices.{Square, power_entry}
 

@@ -10,7 +10,7 @@ pub fn trial_finds_the_least_power()
     ensures { (a : Square) (p : ℕ) → IsLeastPower a p → power_of a ≡ Some p }
 {}
 
-/// A matrix has at most one least power, and none where it has no power.
+/// A matrix has at most one least power, and none if it has no power.
 pub fn least_powers_are_unique()
     ensures unique { (a : Square) (p q : ℕ) → IsLeastPower a p → IsLeastPower a q → p ≡ q }
     ensures excluded { (a : Square) (p : ℕ) → IsLeastPower a p → HasNoPower a → ⊥ }

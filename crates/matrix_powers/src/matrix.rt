@@ -8,7 +8,7 @@ use lash_io::Memory;
 use std::alloc::Global;
 use std::marker::Model;
 
-/// A square matrix of one to four rows. Its entries are kept one row behind the other.
+/// A square matrix of one to four rows. Its entries are kept row by row.
 #[derive(Debug, Drop)]
 pub struct Matrix {
     side: u32,
@@ -26,10 +26,10 @@ impl Model for Matrix {
 }
 
 impl Matrix {
-    /// The matrix with 1 where row and column are the same, and 0 elsewhere. Condition: one to four rows.
+    /// The matrix with 1 if row and column are the same, and 0 elsewhere. Condition: one to four rows.
     ///
     /// # Errors
-    /// `Memory` where memory is wanting.
+    /// `Memory` if the program is out of memory.
     pub fn identity(alloc: Global, side: u32) -> Result<Matrix, Memory>
         requires some { 1 ≤ side }
         requires few { side ≤ 4 }
@@ -46,7 +46,7 @@ impl Matrix {
         Ok(Matrix { side, entries })
     }
 
-    /// The matrix of these entries, one row behind the other. Conditions: there are one to four rows, each of as many entries.
+    /// The matrix of these entries, row by row. Conditions: there are one to four rows, each of as many entries.
     pub fn of_rows(side: u32, entries: Vec<i128>) -> Matrix
         requires some { 1 ≤ side }
         requires few { side ≤ 4 }
@@ -112,7 +112,7 @@ impl Matrix {
     /// The same matrix once more.
     ///
     /// # Errors
-    /// `Memory` where memory is wanting.
+    /// `Memory` if the program is out of memory.
     pub fn copied(&self, alloc: Global) -> Result<Matrix, Memory>
         ensures { IfOk result (λ m. m ≡ self.now) }
     {

@@ -1,4 +1,4 @@
-//! Where turns of an affine map lead, when the powers of its matrix come again.
+//! Where iterations of an affine map lead, when the powers of its matrix come again.
 
 ghost use Rattle.std.specs.Prelude.{◌≡◌, ◌≤◌, ◌<◌, ◌+◌, ◌*◌, ◌^◌, IfOk, List, ℤ, length, unsigned_abs};
 ghost use Rattle.matrix_powers.specs.Matrices.{IsSquare, power_entry};
@@ -41,7 +41,7 @@ impl Orbit {
     /// 2^40 in magnitude; A^(2p) = A^p, and no entry of A^1 to A^(2p) passes 2^40 in magnitude.
     ///
     /// # Errors
-    /// `Memory` where memory is wanting.
+    /// `Memory` if the program is out of memory.
     pub fn new(alloc: Global, matrix: &Matrix, shift: &Shift, power: u32) -> Result<Orbit, Memory>
         requires some { 1 ≤ power }
         requires few { power ≤ powers_limit }
@@ -49,18 +49,9 @@ impl Orbit {
         requires shift { IsShift matrix.now.side shift.now }
         ensures { IfOk result (λ o. o ≡ record { matrix = matrix.now; shift = shift.now; power = power }) }
     {
-        let powers = match powers_upto(alloc, matrix, power) {
-            Ok(powers) => powers,
-            Err(error) => return Err(error),
-        };
-        let sums = match sums_upto(alloc, matrix, shift, power, &powers) {
-            Ok(sums) => sums,
-            Err(error) => return Err(error),
-        };
-        let matrix = match matrix.copied(alloc) {
-            Ok(matrix) => matrix,
-            Err(error) => return Err(error),
-        };
+        let powers = powers_upto(alloc, matrix, power)?;
+        let sums = sums_upto(alloc, matrix, shift, power, &powers)?;
+        let matrix = matrix.copied(alloc)?;
         match shift.copied(alloc) {
             Ok(shift) => Ok(Orbit {
                 matrix,
@@ -90,7 +81,7 @@ impl Orbit {
         self.power
     }
 
-    /// The entry of a power of the matrix at a row and a column, at most 2^40 in magnitude. Conditions: at most 2p turns; row and column
+    /// The entry of a power of the matrix at a row and a column, at most 2^40 in magnitude. Conditions: at most 2p iterations; row and column
     /// are below the number of rows.
     pub fn coefficient(&self, turns: u32, row: u32, column: u32) -> i128
         requires turns { turns ≤ self.now.power + self.now.power }
@@ -103,7 +94,7 @@ impl Orbit {
         power.get(row, column)
     }
 
-    /// What so many turns add at a row, at most 2^82 in magnitude for each turn. Conditions: at most 3p turns; the row is below the number
+    /// What so many iterations add at a row, at most 2^82 in magnitude for each iteration. Conditions: at most 3p iterations; the row is below the number
     /// of rows.
     pub fn constant(&self, turns: u32, row: u32) -> i128
         requires turns { turns ≤ self.now.power + self.now.power + self.now.power }
@@ -115,7 +106,7 @@ impl Orbit {
         sum.get(row)
     }
 
-    /// How far p more turns lead at a row, behind p turns and as many more as the remainder. Conditions: the remainder is below p; the row
+    /// How far p more iterations lead at a row, after p iterations and as many more as the remainder. Conditions: the remainder is below p; the row
     /// is below the number of rows.
     pub fn stride(&self, remainder: u32, row: u32) -> i128
         requires remainder { remainder < self.now.power }
@@ -137,15 +128,9 @@ fn powers_upto(alloc: Global, matrix: &Matrix, power: u32) -> Result<Vec<Matrix>
     ensures powers { IfOk result (λ ms. ArePowers matrix.now ms.items) }
     ensures count { IfOk result (λ ms. length ms.items ≡ power + power + 1) }
 {
-    let mut powers = match first_power(alloc, matrix) {
-        Ok(powers) => powers,
-        Err(error) => return Err(error),
-    };
+    let mut powers = first_power(alloc, matrix)?;
     for _made in 0..power + power {
-        let next = match next_power(alloc, matrix, &powers) {
-            Ok(next) => next,
-            Err(error) => return Err(error),
-        };
+        let next = next_power(alloc, matrix, &powers)?;
         match powers.push(next) {
             Ok(()) => {}
             Err(_) => return Err(Memory),
@@ -184,17 +169,11 @@ fn sums_upto(
     ensures sums { IfOk result (λ ss. AreSums matrix.now shift.now ss.items) }
     ensures count { IfOk result (λ ss. length ss.items ≡ power + power + power + 1) }
 {
-    let mut sums = match first_sum(alloc, matrix) {
-        Ok(sums) => sums,
-        Err(error) => return Err(error),
-    };
+    let mut sums = first_sum(alloc, matrix)?;
     for turns in 0..power + power + power {
         let sum = &sums[turns as usize];
         let exponent = reduced(turns, power);
-        let next = match next_sum(alloc, sum, &powers[exponent as usize], shift) {
-            Ok(next) => next,
-            Err(error) => return Err(error),
-        };
+        let next = next_sum(alloc, sum, &powers[exponent as usize], shift)?;
         match sums.push(next) {
             Ok(()) => {}
             Err(_) => return Err(Memory),
@@ -210,10 +189,7 @@ fn first_sum(alloc: Global, matrix: &Matrix) -> Result<Vec<Shift>, Memory>
     ensures one { IfOk result (λ ss. length ss.items ≡ 1) }
 {
     let mut sums = Vec::new(alloc);
-    let zero = match Shift::zero(alloc, matrix.side()) {
-        Ok(zero) => zero,
-        Err(error) => return Err(error),
-    };
+    let zero = Shift::zero(alloc, matrix.side())?;
     match sums.push(zero) {
         Ok(()) => Ok(sums),
         Err(_) => Err(Memory),

@@ -15,27 +15,24 @@ const LIMIT: u32 = 12;
 /// The 0-th power alone. Condition: the matrix has entries of at most 2^40 in magnitude.
 ///
 /// # Errors
-/// `Memory` where memory is wanting.
+/// `Memory` if the program is out of memory.
 pub fn first_power(alloc: Global, matrix: &Matrix) -> Result<Vec<Matrix>, Memory>
     requires { IsSmall matrix.now }
     ensures powers { IfOk result (λ ms. ArePowers matrix.now ms.items) }
     ensures one { IfOk result (λ ms. length ms.items ≡ 1) }
 {
     let mut powers = Vec::new(alloc);
-    let identity = match Matrix::identity(alloc, matrix.side()) {
-        Ok(identity) => identity,
-        Err(error) => return Err(error),
-    };
+    let identity = Matrix::identity(alloc, matrix.side())?;
     match powers.push(identity) {
         Ok(()) => Ok(powers),
         Err(_) => Err(Memory),
     }
 }
 
-/// The power behind those that were made.
+/// The power after those that were made.
 ///
 /// # Errors
-/// `Memory` where memory is wanting.
+/// `Memory` if the program is out of memory.
 pub fn next_power(alloc: Global, matrix: &Matrix, powers: &[Matrix]) -> Result<Matrix, Memory>
     requires { ArePowers matrix.now powers.now }
     ensures { IfOk result (λ m. IsPowerOf matrix.now (length powers.now) m) }
@@ -52,10 +49,7 @@ fn extend(alloc: Global, matrix: &Matrix, powers: &mut Vec<Matrix>) -> Result<bo
     requires { ArePowers matrix.now powers.old.items }
     ensures { IfOk result (λ more. IsExtended matrix.now powers.old.items powers.new.items more) }
 {
-    let next = match next_power(alloc, matrix, powers) {
-        Ok(next) => next,
-        Err(error) => return Err(error),
-    };
+    let next = next_power(alloc, matrix, powers)?;
     if !next.is_small() {
         return Ok(false);
     }
@@ -80,11 +74,11 @@ fn extend_twice(alloc: Global, matrix: &Matrix, powers: &mut Vec<Matrix>) -> Res
     }
 }
 
-/// The least p from 1 to 12 with A^(2p) = A^p where no entry of A^1 to A^(2p) passes 2^40 in magnitude, or none. The entries of the matrix
+/// The least p from 1 to 12 with A^(2p) = A^p if no entry of A^1 to A^(2p) passes 2^40 in magnitude, or none. The entries of the matrix
 /// may be any numbers of 128 bits.
 ///
 /// # Errors
-/// `Memory` where memory is wanting.
+/// `Memory` if the program is out of memory.
 pub fn power(alloc: Global, matrix: &Matrix) -> Result<Option<u32>, Memory>
     ensures { IfOk result (λ p. IsPowerAnswer matrix.now p) }
 {
@@ -92,10 +86,7 @@ pub fn power(alloc: Global, matrix: &Matrix) -> Result<Option<u32>, Memory>
     if !matrix.is_small() {
         return Ok(None);
     }
-    let mut powers = match first_power(alloc, matrix) {
-        Ok(powers) => powers,
-        Err(error) => return Err(error),
-    };
+    let mut powers = first_power(alloc, matrix)?;
     for before in 0..LIMIT {
         match extend_twice(alloc, matrix, &mut powers) {
             Ok(true) => {}

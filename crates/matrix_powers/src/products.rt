@@ -41,7 +41,7 @@ fn row_times_column(left: &Matrix, right: &Matrix, row: u32, column: u32) -> i12
 /// The left matrix times the right one. Conditions: they have as many rows, and entries of at most 2^40 in magnitude.
 ///
 /// # Errors
-/// `Memory` where memory is wanting.
+/// `Memory` if the program is out of memory.
 pub fn product(alloc: Global, left: &Matrix, right: &Matrix) -> Result<Matrix, Memory>
     requires side { right.now.side ≡ left.now.side }
     requires left { IsSmall left.now }

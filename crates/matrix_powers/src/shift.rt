@@ -1,4 +1,4 @@
-//! Vectors of integers that a turn adds.
+//! Vectors of integers that an iteration adds.
 
 ghost use Rattle.std.specs.Prelude.{◌≡◌, ◌≤◌, ◌<◌, ℕ, IfOk, length, pos, replicate, slice_set};
 ghost use Rattle.matrix_powers.specs.Orbits.{at_row};
@@ -27,7 +27,7 @@ impl Shift {
     /// The vector of zeros. Condition: one to four rows.
     ///
     /// # Errors
-    /// `Memory` where memory is wanting.
+    /// `Memory` if the program is out of memory.
     pub fn zero(alloc: Global, side: u32) -> Result<Shift, Memory>
         requires some { 1 ≤ side }
         requires few { side ≤ 4 }
@@ -76,7 +76,7 @@ impl Shift {
     /// The same vector once more.
     ///
     /// # Errors
-    /// `Memory` where memory is wanting.
+    /// `Memory` if the program is out of memory.
     pub fn copied(&self, alloc: Global) -> Result<Shift, Memory>
         ensures { IfOk result (λ s. s ≡ self.now) }
     {

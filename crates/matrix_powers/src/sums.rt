@@ -58,7 +58,7 @@ fn next_row(sum: &Shift, matrix: &Matrix, shift: &Shift, row: u32) -> i128
 /// those of the sum at most 2^88.
 ///
 /// # Errors
-/// `Memory` where memory is wanting.
+/// `Memory` if the program is out of memory.
 pub fn next_sum(alloc: Global, sum: &Shift, matrix: &Matrix, shift: &Shift) -> Result<Shift, Memory>
     requires length { length sum.now ≡ matrix.now.side }
     requires sum { IsWithin (2 ^ 88) sum.now }

@@ -94,7 +94,7 @@ fn step(alloc: Global, entry: i128) -> Result<Shift, Memory>
     }
 }
 
-// The orbit of `entry * x + shift`, where the entry has a power.
+// The orbit of `entry * x + shift`, if the entry has a power.
 fn orbit_of(alloc: Global, entry: i128, shift: i128) -> Option<Orbit>
     requires { unsigned_abs shift ≤ 2 ^ 40 }
 {
@@ -106,7 +106,7 @@ fn orbit_of(alloc: Global, entry: i128, shift: i128) -> Option<Orbit>
     }
 }
 
-// Whether what three turns add, and the stride, are these, in an orbit of one row and a power of at most 2.
+// Whether what three iterations add, and the stride, are these, in an orbit of one row and a power of at most 2.
 fn leads(orbit: &Orbit, three: i128, stride: i128) -> bool {
     orbit.side() == 1
         && orbit.power() <= 2
