@@ -1,4 +1,4 @@
--- Thresholds rise, so a count is right where the last one before it is below the value and the next one is not.
+-- Thresholds rise, so a count is right if the last one before it is below the value and the next one is not.
 use Rattle.std.proofs.Common.{◌≡◌, ℕ, ◌+◌, ◌-◌, ◌≤◌, ◌<◌, List, length, true, false, arith, sym, subst}
 use Rattle.std.proofs.Math.IntN.{ℤ, pos}
 use Rattle.std.specs.Prelude.{◌<ℤ◌, ◌≤ℤ◌, int_lt}

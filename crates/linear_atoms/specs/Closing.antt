@@ -18,7 +18,7 @@ IsSmallTotal base z = unsigned_abs z + 2 ^ 24 ≤ base * 2 ^ 24
 abbrev pub IsDistinct : List ℤ → Type 0
 IsDistinct xs = AllPairs (λ x y. x ≡ y → ⊥) xs
 
--- a bound goes last where it is new
+-- a bound goes last if it is new
 pub data Met (before : List ℤ) (bound : ℤ) (after : List ℤ) : Type 0 where
   known : Among bound before → after ≡ before → Met before bound after
   added : (Among bound before → ⊥) → after ≡ before ++ bound ∷ [] → Met before bound after

@@ -61,7 +61,7 @@ pub(crate) fn room_for(letters: u32, fracs: u32, limit: u64) -> usize
 
 /// The table of an equation or inequation over integers, of so many tracks. The atom's places are tracks, the atom is inside the
 /// limits of coefficients and constants, there are at most 4,096 letters, and the limit of cells is at most 16,777,216. `Heavy`
-/// comes exactly where the cells, one more than the letters for each state, pass the limit; a state is a number of thresholds.
+/// comes exactly if the cells, one more than the letters for each state, pass the limit; a state is a number of thresholds.
 pub fn atom_int(
     alloc: Global,
     base: Base,
@@ -79,14 +79,8 @@ pub fn atom_int(
     ensures table { IfOk result (λ t. IsTable t.table) }
     ensures heavy { IfErr result (λ e. e ≡ BuildError.Heavy → IsHeavyAtom (comparison_of kind) atom.now base tracks limit) }
 {
-    let totals = match letter_totals(alloc, base, tracks, atom) {
-        Ok(totals) => totals,
-        Err(error) => return Err(error),
-    };
-    let seeds = match seeds_of(alloc, kind, &atom.constant()) {
-        Ok(seeds) => seeds,
-        Err(error) => return Err(error),
-    };
+    let totals = letter_totals(alloc, base, tracks, atom)?;
+    let seeds = seeds_of(alloc, kind, &atom.constant())?;
     let room = room_for(base.radix().pow(tracks), 0, limit);
     let thresholds = match thresholds(alloc, base.radix(), &totals, &seeds, room) {
         Ok(thresholds) => thresholds,
@@ -112,13 +106,11 @@ fn table_of(alloc: Global, plan: &Plan) -> Result<Table<Plain>, BuildError>
     requires plan { IsPlan plan.now.base plan.now.tracks plan.now.atom.now plan.now.totals.now plan.now.thresholds.now }
     requires whole { plan.now.fracs ≡ 0 }
     requires cells { (length plan.now.thresholds.now + 1) * (plan.now.base ^ plan.now.tracks + 1) ≤ 16777216 }
-    ensures filled { IfOk result (λ t. IsFilling (comparison_of plan.now.kind) plan.now.atom.now plan.now.base plan.now.tracks plan.now.totals.now plan.now.thresholds.now plan.now.fracs (length plan.now.thresholds.now + 1) t) }
+    ensures filled { IfOk result (λ t. IsFilling (comparison_of plan.now.kind) plan.now.atom.now plan.now.base plan.now.tracks plan.now.totals.now
+        plan.now.thresholds.now plan.now.fracs (length plan.now.thresholds.now + 1) t) }
     ensures never { IfErr result (λ e. e ≡ BuildError.Memory) }
 {
-    let mut table = match stepping(alloc, plan) {
-        Ok(table) => table,
-        Err(error) => return Err(error),
-    };
+    let mut table = stepping(alloc, plan)?;
     fill_outs(plan, &mut table);
     Ok(table)
 }
@@ -127,7 +119,8 @@ fn table_of(alloc: Global, plan: &Plan) -> Result<Table<Plain>, BuildError>
 pub(crate) fn stepping(alloc: Global, plan: &Plan) -> Result<Table<Plain>, BuildError>
     requires plan { IsPlan plan.now.base plan.now.tracks plan.now.atom.now plan.now.totals.now plan.now.thresholds.now }
     requires cells { (length plan.now.thresholds.now + 1 + plan.now.fracs) * (plan.now.base ^ plan.now.tracks + 1) ≤ 16777216 }
-    ensures steps { IfOk result (λ t. AreStepsFilled plan.now.atom.now plan.now.base plan.now.tracks plan.now.totals.now plan.now.thresholds.now plan.now.fracs (2 ^ plan.now.tracks) ((length plan.now.thresholds.now + 1) * length plan.now.totals.now) t) }
+    ensures steps { IfOk result (λ t. AreStepsFilled plan.now.atom.now plan.now.base plan.now.tracks plan.now.totals.now plan.now.thresholds.now plan.now.fracs
+        (2 ^ plan.now.tracks) ((length plan.now.thresholds.now + 1) * length plan.now.totals.now) t) }
     ensures never { IfErr result (λ e. e ≡ BuildError.Memory) }
 {
     let states = plan.thresholds.len() as u32 + 1;

@@ -66,7 +66,7 @@ pub fn value_of_count(thresholds: &[i128], count: u32) -> i128
     }
 }
 
-/// The value behind a letter of the total.
+/// The value after a letter of the total.
 pub fn next_value(base: u32, value: &i128, total: &i128) -> i128
     requires base { base ≤ 16 }
     requires value { unsigned_abs value.now ≤ 2 ^ 40 + 2 ^ 24 + 2 }

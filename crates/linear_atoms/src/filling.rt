@@ -97,7 +97,8 @@ fn out_of(plan: &Plan, state: u32) -> u32
 fn fill_roots(plan: &Plan, table: &mut Table<Plain>)
     requires plan { IsPlan plan.now.base plan.now.tracks plan.now.atom.now plan.now.totals.now plan.now.thresholds.now }
     requires blank { AreStepsFilled plan.now.atom.now plan.now.base plan.now.tracks plan.now.totals.now plan.now.thresholds.now plan.now.fracs 0 0 table.old }
-    ensures filled { AreStepsFilled plan.now.atom.now plan.now.base plan.now.tracks plan.now.totals.now plan.now.thresholds.now plan.now.fracs (2 ^ plan.now.tracks) 0 table.new }
+    ensures filled { AreStepsFilled plan.now.atom.now plan.now.base plan.now.tracks plan.now.totals.now plan.now.thresholds.now plan.now.fracs
+        (2 ^ plan.now.tracks) 0 table.new }
 {
     for sign in 0..2u32.pow(plan.tracks) {
         table.set_root(sign, root_of(plan, sign));
@@ -120,8 +121,10 @@ fn lower_target(table: &Table<Plain>, state: u32, letter: u32) -> u32
 fn fill_row(plan: &Plan, table: &mut Table<Plain>, state: u32)
     requires plan { IsPlan plan.now.base plan.now.tracks plan.now.atom.now plan.now.totals.now plan.now.thresholds.now }
     requires state { state < length plan.now.thresholds.now + 1 }
-    requires before { AreStepsFilled plan.now.atom.now plan.now.base plan.now.tracks plan.now.totals.now plan.now.thresholds.now plan.now.fracs (2 ^ plan.now.tracks) (state * length plan.now.totals.now) table.old }
-    ensures filled { AreStepsFilled plan.now.atom.now plan.now.base plan.now.tracks plan.now.totals.now plan.now.thresholds.now plan.now.fracs (2 ^ plan.now.tracks) ((state + 1) * length plan.now.totals.now) table.new }
+    requires before { AreStepsFilled plan.now.atom.now plan.now.base plan.now.tracks plan.now.totals.now plan.now.thresholds.now plan.now.fracs
+        (2 ^ plan.now.tracks) (state * length plan.now.totals.now) table.old }
+    ensures filled { AreStepsFilled plan.now.atom.now plan.now.base plan.now.tracks plan.now.totals.now plan.now.thresholds.now plan.now.fracs
+        (2 ^ plan.now.tracks) ((state + 1) * length plan.now.totals.now) table.new }
 {
     for letter in 0..plan.totals.len() as u32 {
         let from = lower_target(&*table, state, letter);
@@ -132,8 +135,10 @@ fn fill_row(plan: &Plan, table: &mut Table<Plain>, state: u32)
 /// Fills the rows.
 fn fill_rows(plan: &Plan, table: &mut Table<Plain>)
     requires plan { IsPlan plan.now.base plan.now.tracks plan.now.atom.now plan.now.totals.now plan.now.thresholds.now }
-    requires before { AreStepsFilled plan.now.atom.now plan.now.base plan.now.tracks plan.now.totals.now plan.now.thresholds.now plan.now.fracs (2 ^ plan.now.tracks) 0 table.old }
-    ensures filled { AreStepsFilled plan.now.atom.now plan.now.base plan.now.tracks plan.now.totals.now plan.now.thresholds.now plan.now.fracs (2 ^ plan.now.tracks) ((length plan.now.thresholds.now + 1) * length plan.now.totals.now) table.new }
+    requires before { AreStepsFilled plan.now.atom.now plan.now.base plan.now.tracks plan.now.totals.now plan.now.thresholds.now plan.now.fracs
+        (2 ^ plan.now.tracks) 0 table.old }
+    ensures filled { AreStepsFilled plan.now.atom.now plan.now.base plan.now.tracks plan.now.totals.now plan.now.thresholds.now plan.now.fracs
+        (2 ^ plan.now.tracks) ((length plan.now.thresholds.now + 1) * length plan.now.totals.now) table.new }
 {
     for state in 0..plan.thresholds.len() as u32 + 1 {
         fill_row(plan, table, state);
@@ -144,7 +149,8 @@ fn fill_rows(plan: &Plan, table: &mut Table<Plain>)
 pub fn fill_steps(plan: &Plan, table: &mut Table<Plain>)
     requires plan { IsPlan plan.now.base plan.now.tracks plan.now.atom.now plan.now.totals.now plan.now.thresholds.now }
     requires blank { AreStepsFilled plan.now.atom.now plan.now.base plan.now.tracks plan.now.totals.now plan.now.thresholds.now plan.now.fracs 0 0 table.old }
-    ensures filled { AreStepsFilled plan.now.atom.now plan.now.base plan.now.tracks plan.now.totals.now plan.now.thresholds.now plan.now.fracs (2 ^ plan.now.tracks) ((length plan.now.thresholds.now + 1) * length plan.now.totals.now) table.new }
+    ensures filled { AreStepsFilled plan.now.atom.now plan.now.base plan.now.tracks plan.now.totals.now plan.now.thresholds.now plan.now.fracs
+        (2 ^ plan.now.tracks) ((length plan.now.thresholds.now + 1) * length plan.now.totals.now) table.new }
 {
     fill_roots(plan, table);
     fill_rows(plan, table);
@@ -154,8 +160,10 @@ pub fn fill_steps(plan: &Plan, table: &mut Table<Plain>)
 pub fn fill_outs(plan: &Plan, table: &mut Table<Plain>)
     requires plan { IsPlan plan.now.base plan.now.tracks plan.now.atom.now plan.now.totals.now plan.now.thresholds.now }
     requires whole { plan.now.fracs ≡ 0 }
-    requires steps { AreStepsFilled plan.now.atom.now plan.now.base plan.now.tracks plan.now.totals.now plan.now.thresholds.now plan.now.fracs (2 ^ plan.now.tracks) ((length plan.now.thresholds.now + 1) * length plan.now.totals.now) table.old }
-    ensures filled { IsFilling (comparison_of plan.now.kind) plan.now.atom.now plan.now.base plan.now.tracks plan.now.totals.now plan.now.thresholds.now plan.now.fracs (length plan.now.thresholds.now + 1) table.new }
+    requires steps { AreStepsFilled plan.now.atom.now plan.now.base plan.now.tracks plan.now.totals.now plan.now.thresholds.now plan.now.fracs
+        (2 ^ plan.now.tracks) ((length plan.now.thresholds.now + 1) * length plan.now.totals.now) table.old }
+    ensures filled { IsFilling (comparison_of plan.now.kind) plan.now.atom.now plan.now.base plan.now.tracks plan.now.totals.now plan.now.thresholds.now
+        plan.now.fracs (length plan.now.thresholds.now + 1) table.new }
 {
     for state in 0..plan.thresholds.len() as u32 + 1 {
         table.set_out(state, out_of(plan, state));

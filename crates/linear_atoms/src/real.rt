@@ -74,7 +74,9 @@ fn seeds_of(alloc: Global, bounds: &Window, room: usize) -> Result<Vec<i128>, Bu
 fn table_of(alloc: Global, plan: &Plan, window: &Window) -> Result<Table<Plain>, BuildError>
     requires plan { IsBoundPlan plan.now window.now }
     requires cells { (length plan.now.thresholds.now + 1 + bound_states plan.now.atom.now.terms) * (plan.now.base ^ plan.now.tracks + 1) ≤ 16777216 }
-    ensures filled { IfOk result (λ t. AreBoundsFilled (comparison_of plan.now.kind) plan.now.atom.now plan.now.base plan.now.tracks plan.now.totals.now plan.now.thresholds.now (length plan.now.thresholds.now + 1) (bound_states plan.now.atom.now.terms * length plan.now.totals.now) (bound_states plan.now.atom.now.terms) t) }
+    ensures filled { IfOk result (λ t. AreBoundsFilled (comparison_of plan.now.kind) plan.now.atom.now plan.now.base plan.now.tracks plan.now.totals.now
+        plan.now.thresholds.now (length plan.now.thresholds.now + 1) (bound_states plan.now.atom.now.terms * length plan.now.totals.now)
+        (bound_states plan.now.atom.now.terms) t) }
     ensures never { IfErr result (λ e. e ≡ BuildError.Memory) }
 {
     let mut table = stepping(alloc, plan)?;

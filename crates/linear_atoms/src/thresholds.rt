@@ -23,7 +23,7 @@ fn lowered(base: u32, total: &i128, bound: &i128) -> i128
     (*bound - *total).div_euclid(i128::from(base))
 }
 
-/// Meets a bound: it goes last where it is new and there is room.
+/// Meets a bound: it goes last if it is new and there is room.
 fn meet(found: &mut IndexSet<i128>, bound: &i128, room: usize) -> Result<(), BuildError>
     requires room { length found.old.keys ≤ room }
     ensures met { OnOk result (Met found.old.keys bound.now found.new.keys) }
@@ -59,11 +59,13 @@ fn lower(
     requires letter { letter < length totals.now }
     requires room { length found.old.keys ≤ room }
     requires small { All IsSmall found.old.keys }
-    ensures closing { OnOk result ((seeds : List ℤ) → IsClosing base totals.now seeds found.old.keys at letter → IsClosing base totals.now seeds found.new.keys at (letter + 1)) }
+    ensures closing { OnOk result ((seeds : List ℤ) → IsClosing base totals.now seeds found.old.keys at letter
+        → IsClosing base totals.now seeds found.new.keys at (letter + 1)) }
     ensures small { OnOk result (All IsSmall found.new.keys) }
     ensures grown { OnOk result (length found.old.keys ≤ length found.new.keys) }
     ensures within { OnOk result (length found.new.keys ≤ room) }
-    ensures heavy { IfErr result (λ e. e ≡ BuildError.Heavy → (seeds : List ℤ) → IsClosing base totals.now seeds found.old.keys at letter → IsOverfull base totals.now seeds room) }
+    ensures heavy { IfErr result (λ e. e ≡ BuildError.Heavy → (seeds : List ℤ) → IsClosing base totals.now seeds found.old.keys at letter
+        → IsOverfull base totals.now seeds room) }
 {
     let bound = lowered(base, &totals[letter], &found.as_slice()[at]);
     match meet(found, &bound, room) {
@@ -86,11 +88,13 @@ fn lower_by_letters(
     requires at { at < length found.old.keys }
     requires room { length found.old.keys ≤ room }
     requires small { All IsSmall found.old.keys }
-    ensures closing { OnOk result ((seeds : List ℤ) → IsClosing base totals.now seeds found.old.keys at 0 → IsClosing base totals.now seeds found.new.keys (at + 1) 0) }
+    ensures closing { OnOk result ((seeds : List ℤ) → IsClosing base totals.now seeds found.old.keys at 0
+        → IsClosing base totals.now seeds found.new.keys (at + 1) 0) }
     ensures small { OnOk result (All IsSmall found.new.keys) }
     ensures grown { OnOk result (length found.old.keys ≤ length found.new.keys) }
     ensures within { OnOk result (length found.new.keys ≤ room) }
-    ensures heavy { IfErr result (λ e. e ≡ BuildError.Heavy → (seeds : List ℤ) → IsClosing base totals.now seeds found.old.keys at 0 → IsOverfull base totals.now seeds room) }
+    ensures heavy { IfErr result (λ e. e ≡ BuildError.Heavy → (seeds : List ℤ) → IsClosing base totals.now seeds found.old.keys at 0
+        → IsOverfull base totals.now seeds room) }
 {
     for letter in 0..totals.len() {
         match lower(found, base, totals, at, letter, room) {
@@ -112,10 +116,12 @@ fn meet_seed(
     requires room { length found.old.keys ≤ room }
     requires seeds { All IsSmall seeds.now }
     requires small { All IsSmall found.old.keys }
-    ensures starting { OnOk result ((base : ℕ) (totals : List ℤ) → IsStarting base totals seeds.now found.old.keys at → IsStarting base totals seeds.now found.new.keys (at + 1)) }
+    ensures starting { OnOk result ((base : ℕ) (totals : List ℤ) → IsStarting base totals seeds.now found.old.keys at
+        → IsStarting base totals seeds.now found.new.keys (at + 1)) }
     ensures small { OnOk result (All IsSmall found.new.keys) }
     ensures within { OnOk result (length found.new.keys ≤ room) }
-    ensures heavy { IfErr result (λ e. e ≡ BuildError.Heavy → (base : ℕ) (totals : List ℤ) → IsStarting base totals seeds.now found.old.keys at → IsOverfull base totals seeds.now room) }
+    ensures heavy { IfErr result (λ e. e ≡ BuildError.Heavy → (base : ℕ) (totals : List ℤ) → IsStarting base totals seeds.now found.old.keys at
+        → IsOverfull base totals seeds.now room) }
 {
     match meet(found, &seeds[at], room) {
         Ok(()) => Ok(()),
@@ -198,7 +204,7 @@ fn in_order(alloc: Global, found: &IndexSet<i128>) -> Result<Vec<i128>, BuildErr
     }
 }
 
-/// The thresholds of the seeds, rising, where there are at most so many as there is room for. The totals are those of all letters.
+/// The thresholds of the seeds, rising, if there are at most so many as there is room for. The totals are those of all letters.
 pub fn thresholds(
     alloc: Global,
     base: u32,
