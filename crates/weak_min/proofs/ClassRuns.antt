@@ -87,4 +87,3 @@ classing_in c h = record {
       (more_cells (ints c.table) (length c.table.colours) (letters c.table) 16777216 h.table.shape.few_cells);
   few_starts = omega (arith, roots_few c h);
 }
-

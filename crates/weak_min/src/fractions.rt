@@ -29,7 +29,11 @@ struct Ranked {
 }
 
 /// The colours of the ranks of the fraction states, whose rows are given.
-fn colours_by_rank<C: Cells>(alloc: Global, table: &Table<C>, rows: &[u32]) -> Result<Vec<u32>, Memory>
+fn colours_by_rank<C: Cells>(
+    alloc: Global,
+    table: &Table<C>,
+    rows: &[u32],
+) -> Result<Vec<u32>, Memory>
     requires weak { IsWeak (letters table.now.table) (fraction_graph table.now.table) }
     requires rows { rows.now ≡ table.now.table.frac_rows }
     ensures { IfOk result (λ c. IsRecolouring (letters table.now.table) (fraction_graph table.now.table) c.items) }

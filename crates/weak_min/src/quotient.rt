@@ -134,7 +134,11 @@ pub(crate) fn explored(
     ensures { IfOk result (λ k. IsExplored (quotient (record { width = width; rows = rows.now; classes = classes.now; starts = starts.now })) (all_cells (record { width = width; rows = rows.now; classes = classes.now; starts = starts.now })) k) }
 {
     let limit = classes.len() as u64 * (u64::from(width) + 1);
-    match explore(alloc, &mut Quotient::new(width, rows, classes, starts), limit) {
+    match explore(
+        alloc,
+        &mut Quotient::new(width, rows, classes, starts),
+        limit,
+    ) {
         Ok(found) => Ok(found),
         Err(ExploreError::Memory) => Err(Memory),
         Err(ExploreError::Heavy) => unreachable!(),

@@ -137,7 +137,10 @@ fn check_rows(rt: &impl Abort, firsts: &[u32], targets: &[u32], rows: &[[u32; 3]
     for (state, row) in rows.iter().enumerate() {
         let [first, zero, one] = *row;
         assert!(rt; state < 4);
-        assert_eq!(rt; (firsts[state], targets[2 * state], targets[2 * state + 1]), (first, zero, one));
+        assert_eq!(rt;
+            (firsts[state], targets[2 * state], targets[2 * state + 1]),
+            (first, zero, one)
+        );
     }
 }
 

@@ -24,9 +24,9 @@ returns-in-Ok-of_explored-clause-canonical g c =
       classes = rw (← c.requires.rows, ← c.requires.outs, ← c.letters-letters.ensures.value) c.in-Ok.ensures;
     } in
     let explored : IsExplored (quotient (classing x)) (all_cells (classing x)) c.in-Ok-explored.found =
-        rw (← c.requires.rows, ← c.letters-letters.ensures.value, ← c.in-Ok-roots_of.ensures, ← c.deref.ensures.value, ← c.deref-2.ensures.value) c.in-Ok-explored.ensures in
+    rw (← c.requires.rows, ← c.letters-letters.ensures.value, ← c.in-Ok-roots_of.ensures, ← c.deref.ensures.value, ← c.deref-2.ensures.value) c.in-Ok-explored.ensures in
     let is : c.in-Ok-of_explored.made.table ≡ laid x.table.base x.table.tracks c.in-Ok-explored.found (answered (class_says x.table.outs) c.in-Ok-explored.found.keys) =
-        rw (← c.base.ensures, ← c.tracks.ensures, ← c.requires.outs) (ap (λ (v : Kept). v.table) c.in-Ok-of_explored.ensures.laid) in
+    rw (← c.base.ensures, ← c.tracks.ensures, ← c.requires.outs) (ap (λ (v : Kept). v.table) c.in-Ok-of_explored.ensures.laid) in
     quotient_canonical x c.in-Ok-explored.found c.in-Ok-of_explored.made.table valid explored c.in-Ok-of_explored.ensures.table is
 
 pub returns-in-Ok-of_explored-clause-words : goal.returns-in-Ok-of_explored-clause-words
@@ -38,7 +38,7 @@ returns-in-Ok-of_explored-clause-words g c =
       classes = rw (← c.requires.rows, ← c.requires.outs, ← c.letters-letters.ensures.value) c.in-Ok.ensures;
     } in
     let explored : IsExplored (quotient (classing x)) (all_cells (classing x)) c.in-Ok-explored.found =
-        rw (← c.requires.rows, ← c.letters-letters.ensures.value, ← c.in-Ok-roots_of.ensures, ← c.deref.ensures.value, ← c.deref-2.ensures.value) c.in-Ok-explored.ensures in
+    rw (← c.requires.rows, ← c.letters-letters.ensures.value, ← c.in-Ok-roots_of.ensures, ← c.deref.ensures.value, ← c.deref-2.ensures.value) c.in-Ok-explored.ensures in
     let is : c.in-Ok-of_explored.made.table ≡ laid x.table.base x.table.tracks c.in-Ok-explored.found (answered (class_says x.table.outs) c.in-Ok-explored.found.keys) =
-        rw (← c.base.ensures, ← c.tracks.ensures, ← c.requires.outs) (ap (λ (v : Kept). v.table) c.in-Ok-of_explored.ensures.laid) in
+    rw (← c.base.ensures, ← c.tracks.ensures, ← c.requires.outs) (ap (λ (v : Kept). v.table) c.in-Ok-of_explored.ensures.laid) in
     quotient_words x c.in-Ok-explored.found c.in-Ok-of_explored.made.table valid explored is

@@ -15,7 +15,7 @@ pub of_two_explored-requires-clause-cells : goal.of_two_explored-requires-clause
 of_two_explored-requires-clause-cells g c =
     let ints : AreReachedInts c.args.table.now.table c.in-Ok.part.classes.items c.in-Ok-explored_ints.whole = rw (← c.deref.ensures.value) c.in-Ok-explored_ints.ensures in
     let fractions : AreReachedFractions c.args.table.now.table c.in-Ok.part.classes.items c.in-Ok-explored_ints.whole c.in-Ok-explored_fractions.fractions =
-        rw (← c.deref-3.ensures.value) c.in-Ok-explored_fractions.ensures in
+    rw (← c.deref-3.ensures.value) c.in-Ok-explored_fractions.ensures in
     cells_within c.args.table.now.table c.in-Ok.part.rows.items c.in-Ok.part.colours.items c.in-Ok.part.classes.items c.in-Ok-explored_ints.whole c.in-Ok-explored_fractions.fractions
     (record { some = c.requires.fractions; weak = c.requires.weak; ranked = c.in-Ok.ensures; reached_ints = ints; reached_fractions = fractions })
 
@@ -23,7 +23,7 @@ pub of_two_explored-requires-clause-proper : goal.of_two_explored-requires-claus
 of_two_explored-requires-clause-proper g c =
     let ints : AreReachedInts c.args.table.now.table c.in-Ok.part.classes.items c.in-Ok-explored_ints.whole = rw (← c.deref.ensures.value) c.in-Ok-explored_ints.ensures in
     let fractions : AreReachedFractions c.args.table.now.table c.in-Ok.part.classes.items c.in-Ok-explored_ints.whole c.in-Ok-explored_fractions.fractions =
-        rw (← c.deref-3.ensures.value) c.in-Ok-explored_fractions.ensures in
+    rw (← c.deref-3.ensures.value) c.in-Ok-explored_fractions.ensures in
     rw (c.deref-4.ensures.value)
     (colours_proper c.args.table.now.table c.in-Ok.part.rows.items c.in-Ok.part.colours.items c.in-Ok.part.classes.items c.in-Ok-explored_ints.whole c.in-Ok-explored_fractions.fractions
     (record { some = c.requires.fractions; weak = c.requires.weak; ranked = c.in-Ok.ensures; reached_ints = ints; reached_fractions = fractions }))
@@ -32,9 +32,9 @@ pub returns-in-Ok-of_two_explored-clause-canonical : goal.returns-in-Ok-of_two_e
 returns-in-Ok-of_two_explored-clause-canonical g c =
     let ints : AreReachedInts c.args.table.now.table c.in-Ok.part.classes.items c.in-Ok-explored_ints.whole = rw (← c.deref.ensures.value) c.in-Ok-explored_ints.ensures in
     let fractions : AreReachedFractions c.args.table.now.table c.in-Ok.part.classes.items c.in-Ok-explored_ints.whole c.in-Ok-explored_fractions.fractions =
-        rw (← c.deref-3.ensures.value) c.in-Ok-explored_fractions.ensures in
+    rw (← c.deref-3.ensures.value) c.in-Ok-explored_fractions.ensures in
     let is : c.in-Ok-of_two_explored.made.table ≡ laid c.args.table.now.table c.in-Ok.part.colours.items c.in-Ok-explored_ints.whole c.in-Ok-explored_fractions.fractions =
-        rw (← c.base.ensures, ← c.tracks.ensures, ← c.deref-4.ensures.value) (ap (λ (v : Kept). v.table) c.in-Ok-of_two_explored.ensures.laid) in
+    rw (← c.base.ensures, ← c.tracks.ensures, ← c.deref-4.ensures.value) (ap (λ (v : Kept). v.table) c.in-Ok-of_two_explored.ensures.laid) in
     rw is
     (laid_canonical c.args.table.now.table c.in-Ok.part.rows.items c.in-Ok.part.colours.items c.in-Ok.part.classes.items c.in-Ok-explored_ints.whole c.in-Ok-explored_fractions.fractions
     (record { some = c.requires.fractions; weak = c.requires.weak; ranked = c.in-Ok.ensures; reached_ints = ints; reached_fractions = fractions })
@@ -44,9 +44,9 @@ pub returns-in-Ok-of_two_explored-clause-lassos : goal.returns-in-Ok-of_two_expl
 returns-in-Ok-of_two_explored-clause-lassos g c =
     let ints : AreReachedInts c.args.table.now.table c.in-Ok.part.classes.items c.in-Ok-explored_ints.whole = rw (← c.deref.ensures.value) c.in-Ok-explored_ints.ensures in
     let fractions : AreReachedFractions c.args.table.now.table c.in-Ok.part.classes.items c.in-Ok-explored_ints.whole c.in-Ok-explored_fractions.fractions =
-        rw (← c.deref-3.ensures.value) c.in-Ok-explored_fractions.ensures in
+    rw (← c.deref-3.ensures.value) c.in-Ok-explored_fractions.ensures in
     let is : c.in-Ok-of_two_explored.made.table ≡ laid c.args.table.now.table c.in-Ok.part.colours.items c.in-Ok-explored_ints.whole c.in-Ok-explored_fractions.fractions =
-        rw (← c.base.ensures, ← c.tracks.ensures, ← c.deref-4.ensures.value) (ap (λ (v : Kept). v.table) c.in-Ok-of_two_explored.ensures.laid) in
+    rw (← c.base.ensures, ← c.tracks.ensures, ← c.deref-4.ensures.value) (ap (λ (v : Kept). v.table) c.in-Ok-of_two_explored.ensures.laid) in
     rw is
     (laid_accepts c.args.table.now.table c.in-Ok.part.rows.items c.in-Ok.part.colours.items c.in-Ok.part.classes.items c.in-Ok-explored_ints.whole c.in-Ok-explored_fractions.fractions
     (record { some = c.requires.fractions; weak = c.requires.weak; ranked = c.in-Ok.ensures; reached_ints = ints; reached_fractions = fractions })
