@@ -182,6 +182,7 @@ fn check_text(
     requires base { header.now.base ≡ canon.now.table.base }
     requires variables { length header.now.vars ≡ canon.now.table.tracks }
 {
+    assert!(rt; canon.table().fracs() == 0);
     let mut sink = MemSink::new(alloc, 40, Vec::new(alloc))?;
     assert!(rt; write_solution(alloc, canon, header, &mut sink).is_ok());
     assert_eq!(rt; sink.bytes(), text);
@@ -193,6 +194,7 @@ fn check_fault(rt: &impl Abort, alloc: Global, canon: &Canon, header: &Header) -
     requires base { header.now.base ≡ canon.now.table.base }
     requires variables { length header.now.vars ≡ canon.now.table.tracks }
 {
+    assert!(rt; canon.table().fracs() == 0);
     let fails = Vec::from_slice(alloc, &[(2, 1)])?;
     let mut sink = MemSink::new(alloc, 40, fails)?;
     let answer = write_solution(alloc, canon, header, &mut sink);
@@ -298,6 +300,7 @@ fn is_inside(rt: &impl Abort, alloc: Global, left: &Canon, right: &Canon, answer
     requires base { left.now.table.base ≡ right.now.table.base }
     requires tracks { left.now.table.tracks ≡ right.now.table.tracks }
 {
+    assert!(rt; left.table().fracs() == 0 && right.table().fracs() == 0);
     match subset(alloc, left, right, 1000) {
         Ok(found) => assert!(rt; found == answer),
         Err(_) => assert!(rt; false, "it is light"),
@@ -308,6 +311,7 @@ fn is_heavy(rt: &impl Abort, alloc: Global, left: &Canon, right: &Canon)
     requires base { left.now.table.base ≡ right.now.table.base }
     requires tracks { left.now.table.tracks ≡ right.now.table.tracks }
 {
+    assert!(rt; left.table().fracs() == 0 && right.table().fracs() == 0);
     match subset(alloc, left, right, 4) {
         Ok(_) => assert!(rt; false, "a pair has five cells"),
         Err(error) => assert!(rt; error == BuildError::Heavy),

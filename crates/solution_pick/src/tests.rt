@@ -187,6 +187,7 @@ fn check_apart(rt: &impl Abort, alloc: Global, one: &Canon, other: &Canon) -> Re
     requires bases { one.now.table.base ≡ other.now.table.base }
     requires tracks { one.now.table.tracks ≡ other.now.table.tracks }
 {
+    assert!(rt; one.table().fracs() == 0);
     match solution(alloc, one)? {
         Some(lasso) => assert!(rt; !member(other, &lasso)),
         None => assert!(rt; false, "there is a solution"),
