@@ -11,3 +11,4 @@ pub mod Zeros
 pub mod Copying
 pub mod Doubling
 pub mod Sinks
+pub mod AllTracks

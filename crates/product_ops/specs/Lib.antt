@@ -5,3 +5,4 @@ pub mod FractionPairs
 pub mod ReadLassos
 pub mod Negation
 pub mod Restriction
+pub mod Products

@@ -17,7 +17,7 @@ pub use negation::complement;
 pub use operation::Op;
 pub use restriction::restrict_to_ints;
 pub use synchronous::product;
-pub use track_map::TrackMap;
+pub use track_map::{TrackMap, all_tracks};
 
 #[cfg(test)]
 mod tests;

@@ -1,8 +1,11 @@
 //! Which tracks of a result each operand reads.
 
-ghost use Rattle.std.specs.Prelude.{◌≡◌};
+ghost use Rattle.std.specs.Prelude.{◌≡◌, IfOk};
+ghost use Rattle.std.specs.List.{range_with_len};
 ghost use Rattle.product_ops.specs.Tracks.{AreTracks};
 
+use lash_io::Memory;
+use std::alloc::Global;
 use std::marker::Model;
 
 /// The tracks of a result, and those that its left and its right operand read: the operand's track i is the result's track at place
@@ -60,5 +63,16 @@ impl TrackMap {
         ensures tracks { AreTracks self.now.tracks self.now.right }
     {
         self.right.as_slice()
+    }
+}
+
+/// All of so many tracks, rising: distinct, as a map asks for. Fails only if memory runs out.
+pub fn all_tracks(alloc: Global, tracks: u32) -> Result<Vec<u32>, Memory>
+    ensures items { IfOk result (λ v. v.items ≡ range_with_len 0 tracks) }
+    ensures tracks { AreTracks tracks (range_with_len 0 tracks) }
+{
+    match (0..tracks).collect(alloc) {
+        Ok(places) => Ok(places),
+        Err(_) => Err(Memory),
     }
 }
