@@ -14,13 +14,14 @@ use Rattle.integer_laws.proofs.Entries.{vector_from_same}
 use Rattle.lash_model.specs.Formulas.{Formula, Exists, Int}
 use Rattle.lash_model.specs.Meaning.{holds}
 use Rattle.lash_model.specs.Tables.{Table}
-use Rattle.lash_model.specs.Standing.{StandsForWhole}
 use Rattle.lash_model.specs.Sets.{inserted_at, set_of, bound_at}
 use Rattle.formula_core.specs.Atoms.{HasLinearAtoms}
 use Rattle.formula_core.specs.Counts.{uses, free_places}
+use Rattle.set_compile.specs.Kinds.{Stands}
 use Rattle.set_compile.specs.Positions.{position_of, spread}
+use Rattle.set_compile.proofs.Modes.{stands_same}
 use Rattle.set_compile.proofs.Places.{unmapped, free_tracks}
-use Rattle.set_compile.proofs.Spreading.{Depends, entry_in, entry_past, length-spread, stands_same}
+use Rattle.set_compile.proofs.Spreading.{Depends, entry_in, entry_past, length-spread}
 
 -- ---- free places
 free_more : (f : Formula) (m : ℕ) → free_places f (m + 1) ≡ free_places f m ++ cond (uses m f) (m ∷ []) []
@@ -110,11 +111,11 @@ inserted_behind n ns x e = ap₂ (λ a b. a ++ x ∷ b) (take_all n ns (omega (a
 
 -- ---- tables
 -- the table that forgets the body's last track stands for the whole
-pub bound_stands : (t : Table) (f : Formula) (m : ℕ) → uses m f ≡ true → t.tracks ≡ length (free_places f m) → StandsForWhole t (bound_at (length (free_places f m)) (set_of f (spread (m + 1) (free_places f (m + 1))))) → StandsForWhole t (set_of (Exists Int f) (spread m (free_places (Exists Int f) m)))
+pub bound_stands : (t : Table) (f : Formula) (m : ℕ) → uses m f ≡ true → t.tracks ≡ length (free_places f m) → Stands t (bound_at (length (free_places f m)) (set_of f (spread (m + 1) (free_places f (m + 1))))) → Stands t (set_of (Exists Int f) (spread m (free_places (Exists Int f) m)))
 unfolding holds
-bound_stands t f m used tracks s = stands_same t (bound_at (length vs) (set_of f (spread (m + 1) (free_places f (m + 1))))) (set_of (Exists Int f) (spread m vs)) (λ ns count.
+bound_stands t f m used tracks s = stands_same t (bound_at (length vs) (set_of f (spread (m + 1) (free_places f (m + 1))))) (set_of (Exists Int f) (spread m vs)) (λ ns d count.
     let e : (x : ℤ) → spread (m + 1) (free_places f (m + 1)) (inserted_at (length vs) x ns) ≡ spread m vs ns ++ x ∷ [] = λ x. same ns x (count ∙ tracks) in
-    (λ h. (h.0, subst (λ zs. holds f zs 1) (e (h.0 *ℤ pos 1)) h.1), λ h. (h.0, subst (λ zs. holds f zs 1) (sym (e (h.0 *ℤ pos 1))) h.1))) s
+    (λ h. (h.0, subst (λ zs. holds f zs d) (e (h.0 *ℤ pos d)) h.1), λ h. (h.0, subst (λ zs. holds f zs d) (sym (e (h.0 *ℤ pos d))) h.1))) s
   where
     vs : List ℕ
     vs = free_places f m
@@ -123,16 +124,16 @@ bound_stands t f m used tracks s = stands_same t (bound_at (length vs) (set_of f
     same ns x count = ap₂ (spread (m + 1)) (used_more f m used) (inserted_behind (length vs) ns x count) ∙ spread_more m vs ns x (free_tracks f m).below count
 
 -- where the body does not use the bound variable, its table stands for the whole
-pub unbound_stands : Depends → (t : Table) (f : Formula) (m : ℕ) → HasLinearAtoms f → uses m f ≡ false → StandsForWhole t (set_of f (spread (m + 1) (free_places f (m + 1)))) → StandsForWhole t (set_of (Exists Int f) (spread m (free_places (Exists Int f) m)))
+pub unbound_stands : Depends → (t : Table) (f : Formula) (m : ℕ) → HasLinearAtoms f → uses m f ≡ false → Stands t (set_of f (spread (m + 1) (free_places f (m + 1)))) → Stands t (set_of (Exists Int f) (spread m (free_places (Exists Int f) m)))
 unfolding holds
-unbound_stands law t f m linear unused s = stands_same t (set_of f (spread (m + 1) (free_places f (m + 1)))) (set_of (Exists Int f) (spread m vs)) (λ ns count.
-    (λ h. (pos 0, (same ns (pos 0 *ℤ pos 1)).0 h), λ h. (same ns (h.0 *ℤ pos 1)).1 h.1)) s
+unbound_stands law t f m linear unused s = stands_same t (set_of f (spread (m + 1) (free_places f (m + 1)))) (set_of (Exists Int f) (spread m vs)) (λ ns d count.
+    (λ h. (pos 0, (same ns (pos 0 *ℤ pos d) d).0 h), λ h. (same ns (h.0 *ℤ pos d) d).1 h.1)) s
   where
     vs : List ℕ
     vs = free_places f m
 
-    same : (ns : List ℤ) (x : ℤ) → holds f (spread (m + 1) (free_places f (m + 1)) ns) 1 ↔ holds f (spread m vs ns ++ x ∷ []) 1
-    same ns x = law f (spread (m + 1) (free_places f (m + 1)) ns) (spread m vs ns ++ x ∷ []) 1 linear (length-spread (m + 1) (free_places f (m + 1)) ns ∙ sym (pushed ns x)) (each ns x)
+    same : (ns : List ℤ) (x : ℤ) (d : ℕ) → holds f (spread (m + 1) (free_places f (m + 1)) ns) d ↔ holds f (spread m vs ns ++ x ∷ []) d
+    same ns x d = law f (spread (m + 1) (free_places f (m + 1)) ns) (spread m vs ns ++ x ∷ []) d linear (length-spread (m + 1) (free_places f (m + 1)) ns ∙ sym (pushed ns x)) (each ns x)
       where
         pushed : (ns : List ℤ) (x : ℤ) → length (spread m vs ns ++ x ∷ []) ≡ m + 1
         pushed ns x = length-append (spread m vs ns) (x ∷ []) ∙ ap (λ n. n + 1) (length-spread m vs ns)

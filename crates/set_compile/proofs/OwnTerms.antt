@@ -12,15 +12,15 @@ use Rattle.integer_laws.proofs.Entries.{entry-vector}
 use Rattle.lash_model.specs.Formulas.{Linear, IsLinear, IsInside, Comparison, Atom, coefficient_sum}
 use Rattle.lash_model.specs.Meaning.{total, compares, holds}
 use Rattle.lash_model.specs.Tables.{Table}
-use Rattle.lash_model.specs.Standing.{StandsForWhole}
 use Rattle.lash_model.specs.Sets.{set_of}
 use Rattle.formula_core.specs.Terms.{coefficient_at, added}
 use Rattle.formula_core.specs.Counts.{free_places}
 use Rattle.set_compile.specs.Conditions.{IsTermOver}
+use Rattle.set_compile.specs.Kinds.{Stands}
 use Rattle.set_compile.specs.Positions.{position_of, spread}
 use Rattle.set_compile.specs.Steps.{numbered, own}
+use Rattle.set_compile.proofs.Modes.{stands_same}
 use Rattle.set_compile.proofs.Places.{Listed, at_position, position_below, unmapped, free_rise}
-use Rattle.set_compile.proofs.Spreading.{stands_same}
 
 -- ---- the free places of a term
 -- the places rise from a on and stay below b, and no coefficient is 0
@@ -140,11 +140,11 @@ own_adds kind a m ns h below = own_total a.terms 0 ns (spread m vs ns) (λ i lt.
     from_zero : (i : ℕ) → i ≡ 0 + i
     from_zero i = omega arith
 
-pub own_stands : (kind : Comparison) (t : Table) (a : Linear) (m : ℕ) → IsLinear a → IsTermOver m a → StandsForWhole t (holds (Atom kind (own a))) → StandsForWhole t (set_of (Atom kind a) (spread m (free_places (Atom kind a) m)))
+pub own_stands : (kind : Comparison) (t : Table) (a : Linear) (m : ℕ) → IsLinear a → IsTermOver m a → Stands t (holds (Atom kind (own a))) → Stands t (set_of (Atom kind a) (spread m (free_places (Atom kind a) m)))
 unfolding holds
-own_stands kind t a m h over s = stands_same t (holds (Atom kind (own a))) (set_of (Atom kind a) (spread m (free_places (Atom kind a) m))) (λ ns count.
+own_stands kind t a m h over s = stands_same t (holds (Atom kind (own a))) (set_of (Atom kind a) (spread m (free_places (Atom kind a) m))) (λ ns d count.
     let e = own_adds kind a m ns h over.places in
-    (subst (λ x. compares kind x (a.constant *ℤ pos 1)) e, subst (λ x. compares kind x (a.constant *ℤ pos 1)) (sym e))) s
+    (subst (λ x. compares kind x (a.constant *ℤ pos d)) e, subst (λ x. compares kind x (a.constant *ℤ pos d)) (sym e))) s
 
 -- ---- building the term
 pub coefficient_behind : (ts : List (ℕ × ℤ)) (p : ℕ) → AllByRecursion (λ t. t.0 < p) ts → coefficient_at ts p ≡ pos 0

@@ -11,17 +11,17 @@ use Rattle.integer_laws.proofs.Entries.{length-vector_from, entry-vector}
 use Rattle.integer_laws.proofs.Ring.{times_comm, times_zero}
 use Rattle.lash_model.specs.Formulas.{Formula, Not, And, Or}
 use Rattle.lash_model.specs.Meaning.{total, holds}
-use Rattle.lash_model.specs.Words.{value, values}
 use Rattle.lash_model.specs.Tables.{Table}
-use Rattle.lash_model.specs.Standing.{StandsForWhole}
 use Rattle.lash_model.specs.Sets.{set_of}
 use Rattle.formula_core.specs.Atoms.{HasLinearAtoms}
 use Rattle.formula_core.specs.Counts.{uses, free_places}
 use Rattle.product_ops.specs.Tracks.{pick_entries}
 use Rattle.product_ops.specs.Operations.{joined}
 use Rattle.product_ops.specs.declared.operation.Op.TheVariants.{And as Both, Or as Either}
+use Rattle.set_compile.specs.Kinds.{Stands}
 use Rattle.set_compile.specs.Positions.{position_of, positions, spread, shared}
 use Rattle.set_compile.specs.Steps.{always, all_tracks}
+use Rattle.set_compile.proofs.Modes.{stands_same}
 use Rattle.set_compile.proofs.Places.{at_position, position_below, mapped_twice, unmapped, free_listed}
 
 -- what a formula says depends on the entries at its used places alone
@@ -110,42 +110,32 @@ all_reads law f m ns d linear full count = law f (spread m vs ns) ns d linear (l
     ]
 
 -- ---- tables
--- a table stands for any set that has the same vectors
-pub stands_same : (t : Table) (P Q : List ℤ → ℕ → Type 0) → ((ns : List ℤ) → length ns ≡ t.tracks → P ns 1 ↔ Q ns 1) → StandsForWhole t P → StandsForWhole t Q
-stands_same t P Q same s = record {
-  diagram = s.diagram;
-  each = λ sign w h ls.
-      let there = same (values t.base t.tracks sign w) (length-vector_from (λ i. value t.base t.tracks i sign w) 0 t.tracks) in
-      let both = s.each sign w h ls in
-      (λ a. there.0 (both.0 a), λ b. both.1 (there.1 b));
-}
-
-pub not_stands : (t : Table) (f : Formula) (m : ℕ) → StandsForWhole t (λ ns d. set_of f (spread m (free_places f m)) ns d → ⊥) → StandsForWhole t (set_of (Not f) (spread m (free_places (Not f) m)))
+pub not_stands : (t : Table) (f : Formula) (m : ℕ) → Stands t (λ ns d. set_of f (spread m (free_places f m)) ns d → ⊥) → Stands t (set_of (Not f) (spread m (free_places (Not f) m)))
 unfolding holds
 not_stands t f m s = s
 
-pub and_stands : Depends → (t : Table) (f g : Formula) (m : ℕ) → HasLinearAtoms f → HasLinearAtoms g → StandsForWhole t (joined Both (set_of f (spread m (free_places f m))) (set_of g (spread m (free_places g m))) (shared (And f g) f g m)) → StandsForWhole t (set_of (And f g) (spread m (free_places (And f g) m)))
+pub and_stands : Depends → (t : Table) (f g : Formula) (m : ℕ) → HasLinearAtoms f → HasLinearAtoms g → Stands t (joined Both (set_of f (spread m (free_places f m))) (set_of g (spread m (free_places g m))) (shared (And f g) f g m)) → Stands t (set_of (And f g) (spread m (free_places (And f g) m)))
 unfolding holds
-and_stands law t f g m lf lg s = stands_same t _ (set_of (And f g) (spread m (free_places (And f g) m))) (λ ns count.
-    let left = part_reads law (And f g) f m ns 1 lf in
-    let right = part_reads law (And f g) g m ns 1 lg in
+and_stands law t f g m lf lg s = stands_same t _ (set_of (And f g) (spread m (free_places (And f g) m))) (λ ns d count.
+    let left = part_reads law (And f g) f m ns d lf in
+    let right = part_reads law (And f g) g m ns d lg in
     (λ x. (left.0 x.0, right.0 x.1), λ y. (left.1 y.0, right.1 y.1))) s
 
-pub or_stands : Depends → (t : Table) (f g : Formula) (m : ℕ) → HasLinearAtoms f → HasLinearAtoms g → StandsForWhole t (joined Either (set_of f (spread m (free_places f m))) (set_of g (spread m (free_places g m))) (shared (Or f g) f g m)) → StandsForWhole t (set_of (Or f g) (spread m (free_places (Or f g) m)))
+pub or_stands : Depends → (t : Table) (f g : Formula) (m : ℕ) → HasLinearAtoms f → HasLinearAtoms g → Stands t (joined Either (set_of f (spread m (free_places f m))) (set_of g (spread m (free_places g m))) (shared (Or f g) f g m)) → Stands t (set_of (Or f g) (spread m (free_places (Or f g) m)))
 unfolding holds
-or_stands law t f g m lf lg s = stands_same t _ (set_of (Or f g) (spread m (free_places (Or f g) m))) (λ ns count.
-    let left = part_reads law (Or f g) f m ns 1 lf in
-    let right = part_reads law (Or f g) g m ns 1 lg in
+or_stands law t f g m lf lg s = stands_same t _ (set_of (Or f g) (spread m (free_places (Or f g) m))) (λ ns d count.
+    let left = part_reads law (Or f g) f m ns d lf in
+    let right = part_reads law (Or f g) g m ns d lg in
     (λ x. elim x [ inl a ↦ inl (left.0 a) | inr b ↦ inr (right.0 b) ], λ y. elim y [ inl a ↦ inl (left.1 a) | inr b ↦ inr (right.1 b) ])) s
 
 always_holds : (ns : List ℤ) (d : ℕ) → holds always ns d
 unfolding holds total
 always_holds ns d = subst (λ z. (pos 0) ≤ℤ z) (sym (times_comm (pos 0) (pos d) ∙ times_zero (pos d))) (omega (arith, ints))
 
-pub wide_stands : Depends → (t : Table) (f : Formula) (m : ℕ) → HasLinearAtoms f → t.tracks ≡ m → StandsForWhole t (joined Both (set_of f (spread m (free_places f m))) (set_of always (spread m (free_places always m))) (all_tracks f m)) → StandsForWhole t (holds f)
-wide_stands law t f m linear tracks s = stands_same t _ (holds f) (λ ns count.
-    let both = wide_reads law f m ns 1 linear (count ∙ tracks) in
-    (λ x. both.0 x.0, λ y. (both.1 y, always_holds _ 1))) s
+pub wide_stands : Depends → (t : Table) (f : Formula) (m : ℕ) → HasLinearAtoms f → t.tracks ≡ m → Stands t (joined Both (set_of f (spread m (free_places f m))) (set_of always (spread m (free_places always m))) (all_tracks f m)) → Stands t (holds f)
+wide_stands law t f m linear tracks s = stands_same t _ (holds f) (λ ns d count.
+    let both = wide_reads law f m ns d linear (count ∙ tracks) in
+    (λ x. both.0 x.0, λ y. (both.1 y, always_holds _ d))) s
 
-pub full_stands : Depends → (t : Table) (f : Formula) (m : ℕ) → HasLinearAtoms f → t.tracks ≡ m → length (free_places f m) ≡ m → StandsForWhole t (set_of f (spread m (free_places f m))) → StandsForWhole t (holds f)
-full_stands law t f m linear tracks full s = stands_same t (set_of f (spread m (free_places f m))) (holds f) (λ ns count. all_reads law f m ns 1 linear full (count ∙ tracks)) s
+pub full_stands : Depends → (t : Table) (f : Formula) (m : ℕ) → HasLinearAtoms f → t.tracks ≡ m → length (free_places f m) ≡ m → Stands t (set_of f (spread m (free_places f m))) → Stands t (holds f)
+full_stands law t f m linear tracks full s = stands_same t (set_of f (spread m (free_places f m))) (holds f) (λ ns d count. all_reads law f m ns d linear full (count ∙ tracks)) s

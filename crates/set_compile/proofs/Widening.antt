@@ -9,7 +9,9 @@ use Rattle.formula_core.specs.Counts.{uses, free_places}
 use Rattle.product_ops.specs.Tracks.{TrackLists}
 use Rattle.product_ops.specs.declared.operation.Op.TheVariants.{And as Both}
 use Rattle.set_compile.specs.Conditions.{IsTermOver, IsNarrow}
-use Rattle.set_compile.specs.Steps.{IsShaped, IsOfPairs, IsMade, IsFirstHeavy, HasHeavyPairs, always, all_tracks, IsWidened, IsRefused}
+use Rattle.set_compile.specs.Kinds.{IsShaped}
+use Rattle.set_compile.specs.Steps.{IsOfPairs, IsMade, IsFirstHeavy, HasHeavyPairs, always, all_tracks, IsWidened, IsWideHeavy}
+use Rattle.set_compile.specs.declared.build.Build.{Build}
 use Rattle.set_compile.proofs.Spreading.{at_most_all}
 use Rattle.set_compile.proofs.OwnTerms.{free_heads}
 use Rattle.set_compile.proofs.Making.{shape_of}
@@ -30,20 +32,20 @@ no_letters base = omega (arith, pow-zero base)
 pub always_narrow : (base m : ℕ) → IsNarrow base m always
 always_narrow base m = subst (λ ps. base ^ length ps ≤ 4096) (sym (always_free m)) (no_letters base)
 
-pub no_always_tracks : (base m limit : ℕ) (t : Table) → IsMade base m limit always t → 0 ≡ t.tracks
-no_always_tracks base m limit t made = sym ((shape_of base m limit always t made).tracks_are ∙ ap length (always_free m))
+pub no_always_tracks : (b : Build) (m : ℕ) (t : Table) → IsMade b m always t → 0 ≡ t.tracks
+no_always_tracks b m t made = sym ((shape_of b m always t made).tracks_are ∙ ap length (always_free m))
 
-pub one_base : (base m limit : ℕ) (f g : Formula) (t u : Table) → IsMade base m limit f t → IsMade base m limit g u → t.base ≡ u.base
-one_base base m limit f g t u a b = (shape_of base m limit f t a).base_is ∙ sym (shape_of base m limit g u b).base_is
+pub one_base : (b : Build) (m : ℕ) (f g : Formula) (t u : Table) → IsMade b m f t → IsMade b m g u → t.base ≡ u.base
+one_base b m f g t u left right = (shape_of b m f t left).base_is ∙ sym (shape_of b m g u right).base_is
 
-pub is_widened : (base m limit : ℕ) (f : Formula) (u v t : Table) (tracks : TrackLists) → tracks ≡ all_tracks f m → IsMade base m limit f u → IsMade base m limit always v → IsShaped u.base tracks.tracks t → IsOfPairs Both u v tracks limit t → IsWidened base m limit f t
-is_widened base m limit f u v t tracks e left right shape joins = record {
-  shape = record { canonical = shape.canonical; base_is = shape.base_is ∙ (shape_of base m limit f u left).base_is; tracks_are = shape.tracks_are ∙ ap (λ (k : TrackLists). k.tracks) e };
+pub is_widened : (b : Build) (m : ℕ) (f : Formula) (u v t : Table) (tracks : TrackLists) → tracks ≡ all_tracks f m → IsMade b m f u → IsMade b m always v → IsShaped b.mode u.base tracks.tracks t → IsOfPairs Both u v tracks b.limit t → IsWidened b m f t
+is_widened b m f u v t tracks e left right shape joins = record {
+  shape = record { canonical = shape.canonical; kind = shape.kind; base_is = shape.base_is ∙ (shape_of b m f u left).base_is; tracks_are = shape.tracks_are ∙ ap (λ (k : TrackLists). k.tracks) e };
   part = u;
   part_made = left;
   whole = v;
   whole_made = right;
-  joins = subst (λ (k : TrackLists). IsOfPairs Both u v k limit t) e joins;
+  joins = subst (λ (k : TrackLists). IsOfPairs Both u v k b.limit t) e joins;
 }
 
 pub fewer_free : (f : Formula) (m n : ℕ) → n ≡ length (free_places f m) → (n ≡ m → ⊥) → length (free_places f m) < m
@@ -52,6 +54,6 @@ fewer_free f m n e other = less (length (free_places f m)) (at_most_all (λ p. u
     less : (k : ℕ) → k ≤ m → (k ≡ m → ⊥) → k < m
     less k le not_same = grind arith
 
-pub refused_later : (base m limit : ℕ) (f : Formula) (u : Table) → length (free_places f m) < m → IsMade base m limit f u → IsFirstHeavy base m limit always ⊎ HasHeavyPairs base m limit f always (all_tracks f m) → IsRefused base m limit f
-refused_later base m limit f u lt made (inl h) = inr (lt, inl ((u, made), h))
-refused_later base m limit f u lt made (inr h) = inr (lt, inr h)
+pub heavy_later : (b : Build) (m : ℕ) (f : Formula) (u : Table) → length (free_places f m) < m → IsMade b m f u → IsFirstHeavy b m always ⊎ HasHeavyPairs b m f always (all_tracks f m) → IsWideHeavy b m f
+heavy_later b m f u lt made (inl h) = inr (lt, inl ((u, made), h))
+heavy_later b m f u lt made (inr h) = inr (lt, inr h)

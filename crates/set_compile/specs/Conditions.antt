@@ -1,8 +1,11 @@
--- The formulas that are compiled: over so many variables, with atoms inside the limits, and with bound integers alone.
-use Rattle.std.specs.Prelude.{ℕ, ◌+◌, ◌<◌, ◌≡◌, All, length}
-use Rattle.lash_model.specs.Formulas.{Int, Linear, IsInside, Formula, Atom, Not, And, Or, Exists}
-use Rattle.formula_core.specs.Counts.{free_places}
+-- The formulas that are compiled: over so many variables, with atoms inside the limits. Those with real variables bind none.
+use Rattle.std.specs.Prelude.{ℕ, ◌+◌, ◌<◌, ◌≡◌, Bool, true, false, ◌&&◌, ◌||◌, if◌then◌else◌, List, All, length}
+use Rattle.std.specs.List.{list_all}
+use Rattle.lash_model.specs.Formulas.{Sort, Int, Linear, IsInside, Formula, Atom, Not, And, Or, Exists}
+use Rattle.formula_core.specs.Counts.{free_places, is_int, binds_ints}
 use Rattle.formula_core.specs.FewLetters.{AreFew}
+use Rattle.set_compile.specs.declared.build.Mode.{Mode}
+use Rattle.set_compile.specs.declared.build.Mode.TheVariants.{Whole, Mixed}
 
 -- a term over m variables, inside the limits of coefficients and constants
 pub record IsTermOver (m : ℕ) (a : Linear) : Type 0 where
@@ -17,13 +20,33 @@ IsOver m (And f g) = IsOver m f × IsOver m g
 IsOver m (Or f g) = IsOver m f × IsOver m g
 IsOver m (Exists s f) = IsOver (m + 1) f
 
--- each bound variable is an integer
-abbrev pub BindsIntegers : Formula → Type 0
-BindsIntegers (Atom kind a) = Unit {0}
-BindsIntegers (Not f) = BindsIntegers f
-BindsIntegers (And f g) = BindsIntegers f × BindsIntegers g
-BindsIntegers (Or f g) = BindsIntegers f × BindsIntegers g
-BindsIntegers (Exists s f) = (s ≡ Int) × BindsIntegers f
+-- some variable is bound
+abbrev pub has_bound : Formula → Bool
+has_bound (Atom kind a) = false
+has_bound (Not f) = has_bound f
+has_bound (And f g) = has_bound f || has_bound g
+has_bound (Or f g) = has_bound f || has_bound g
+has_bound (Exists s f) = true
+
+-- all variables are integers, declared and bound
+abbrev pub are_integers : List Sort → Formula → Bool
+are_integers sorts f = list_all is_int sorts && binds_ints f
+
+-- what the tables of a formula and of its parts read: words of whole numbers if all variables are integers, and else lassos
+abbrev pub mode_of : List Sort → Formula → Mode
+mode_of sorts f = if are_integers sorts f then Whole else Mixed
+
+-- the formulas whose tables are built so far: with real variables, declared or bound, only those that bind none
+abbrev pub IsBuilt : List Sort → Formula → Type 0
+IsBuilt sorts f = are_integers sorts f ≡ false → has_bound f ≡ false
+
+-- what tables that read words bind: integers. Tables that read lassos bind nothing so far
+abbrev pub Binds : Mode → Formula → Type 0
+Binds mode (Atom kind a) = Unit {0}
+Binds mode (Not f) = Binds mode f
+Binds mode (And f g) = Binds mode f × Binds mode g
+Binds mode (Or f g) = Binds mode f × Binds mode g
+Binds mode (Exists s f) = (mode ≡ Whole) × ((s ≡ Int) × Binds mode f)
 
 -- at each node the letters over the free variables are few: what `HasFewLetters` says, and it unfolds by itself
 abbrev pub IsNarrow : ℕ → ℕ → Formula → Type 0

@@ -1,26 +1,29 @@
-//! A formula's canonical table over all its declared variables: over its free ones by a step for each node (Boudet and Comon), and from
-//! there to all by one product.
+//! A formula's canonical table over all its declared variables: over its free ones by a step for each node (Boudet and Comon), from there
+//! to all by one product, and with real variables by two steps more for each integer variable.
 
-ghost use Rattle.std.specs.Prelude.{◌≡◌, ◌<◌, ◌≤◌, ◌^◌, ◌⊎◌, ℕ, ℤ, List, map, length, IfOk, IfErr, OnOk};
-ghost use Rattle.graph_laws.specs.Exploring.{IsHeavy};
+ghost use Rattle.std.specs.Prelude.{◌≡◌, ◌<◌, ◌≤◌, ◌^◌, ◌⊎◌, ℕ, ℤ, List, IsTrue, ◌↔◌, map, length, IfOk, IfErr, OnOk};
 ghost use Rattle.lash_model.specs.Meaning.{holds};
-ghost use Rattle.lash_model.specs.Standing.{StandsFor, StandsForWhole, all_int};
+ghost use Rattle.lash_model.specs.Standing.{StandsFor};
 ghost use Rattle.lash_model.specs.Sets.{set_of};
-ghost use Rattle.canonical_laws.specs.Canonical.{IsCanonical};
+ghost use Rattle.part_laws.specs.CanonicalMixed.{IsCanonicalTable};
 ghost use Rattle.formula_core.specs.Atoms.{HasLinearAtoms};
 ghost use Rattle.formula_core.specs.Counts.{free_places};
-ghost use Rattle.formula_core.specs.FewLetters.{FitsLetters};
+ghost use Rattle.formula_core.specs.FewLetters.{FitsLetters, HasFewLetters};
 ghost use Rattle.formula_core.specs.Shape.{formula_of};
 ghost use Rattle.formula_core.specs.Variables.{sort_of};
-ghost use Rattle.set_compile.specs.Conditions.{IsOver, BindsIntegers};
+ghost use Rattle.set_compile.specs.Compiling.{IsCompiled, IsRefused};
+ghost use Rattle.set_compile.specs.Conditions.{IsOver, IsBuilt, Binds, IsNarrow, mode_of as mode_of_model};
+ghost use Rattle.set_compile.specs.Kinds.{Stands, IsShaped};
 ghost use Rattle.set_compile.specs.Positions.{spread};
-ghost use Rattle.set_compile.specs.Steps.{IsShaped, IsMade, IsWidened, IsCompiled, IsRefused, IsFirstHeavy, HasHeavyPairs, always, all_tracks};
+ghost use Rattle.set_compile.specs.Steps.{IsMade, IsWidened, IsWide, IsWideHeavy, IsFirstHeavy, HasHeavyPairs, always, all_tracks};
 
 use crate::CompileError;
+use crate::build::{Build, Mode};
 use crate::joining::join;
 use crate::nodes::part;
+use crate::wholes::with_wholes;
 use digit_codes::Base;
-use formula_core::{Formula, Linear, Sort, depends_on_free_places, free_vars};
+use formula_core::{Formula, Linear, Sort, all_int, depends_on_free_places, free_vars};
 use lash_io::Memory;
 use product_ops::{Op, TrackMap};
 use std::alloc::Global;
@@ -34,14 +37,14 @@ fn truth(alloc: Global) -> Formula
 }
 
 /// The canonical table of what is true of all vectors, which has no tracks.
-fn always_part(alloc: Global, base: Base, places: u32, limit: u64) -> Result<Canon, CompileError>
-    requires { limit ≤ 16777216 }
-    ensures made { IfOk result (λ c. IsMade base places limit always c.table) }
-    ensures stands { IfOk result (λ c. StandsForWhole c.table (set_of always (spread places (free_places always places)))) }
-    ensures heavy { IfErr result (λ e. e ≡ CompileError.Heavy → IsFirstHeavy base places limit always) }
+fn always_part(alloc: Global, build: &Build, places: u32) -> Result<Canon, CompileError>
+    requires { build.now.limit ≤ 16777216 }
+    ensures made { IfOk result (λ c. IsMade build.now places always c.table) }
+    ensures stands { IfOk result (λ c. Stands c.table (set_of always (spread places (free_places always places)))) }
+    ensures heavy { IfErr result (λ e. e ≡ CompileError.Heavy → IsFirstHeavy build.now places always) }
 {
     let formula = truth(alloc);
-    match part(alloc, base, &formula, places, limit) {
+    match part(alloc, build, &formula, places) {
         Ok(made) => Ok(made),
         Err(error) => Err(error),
     }
@@ -61,22 +64,21 @@ fn wide_map(alloc: Global, formula: &Formula, places: u32) -> Result<TrackMap, M
 /// The canonical table on all tracks, from the one on the tracks of the free variables.
 fn widened(
     alloc: Global,
-    base: Base,
+    build: &Build,
     formula: &Formula,
     made: &Canon,
     places: u32,
-    limit: u64,
 ) -> Result<Canon, CompileError>
-    requires letters { base ^ places ≤ 4096 }
-    requires limit { limit ≤ 16777216 }
-    requires made { IsMade base places limit (formula_of formula.now) made.now.table }
-    requires stands { StandsForWhole made.now.table (set_of (formula_of formula.now) (spread places (free_places (formula_of formula.now) places))) }
-    ensures widened { IfOk result (λ c. IsWidened base places limit (formula_of formula.now) c.table) }
-    ensures stands { IfOk result (λ c. StandsForWhole c.table (holds (formula_of formula.now))) }
-    ensures heavy { IfErr result (λ e. e ≡ CompileError.Heavy → IsFirstHeavy base places limit always ⊎ HasHeavyPairs base places limit (formula_of formula.now) always (all_tracks (formula_of formula.now) places)) }
+    requires letters { build.now.base ^ places ≤ 4096 }
+    requires limit { build.now.limit ≤ 16777216 }
+    requires made { IsMade build.now places (formula_of formula.now) made.now.table }
+    requires stands { Stands made.now.table (set_of (formula_of formula.now) (spread places (free_places (formula_of formula.now) places))) }
+    ensures widened { IfOk result (λ c. IsWidened build.now places (formula_of formula.now) c.table) }
+    ensures stands { IfOk result (λ c. Stands c.table (holds (formula_of formula.now))) }
+    ensures heavy { IfErr result (λ e. e ≡ CompileError.Heavy → IsFirstHeavy build.now places always ⊎ HasHeavyPairs build.now places (formula_of formula.now) always (all_tracks (formula_of formula.now) places)) }
 {
     depends_on_free_places();
-    let whole = match always_part(alloc, base, places, limit) {
+    let whole = match always_part(alloc, build, places) {
         Ok(whole) => whole,
         Err(error) => return Err(error),
     };
@@ -84,18 +86,62 @@ fn widened(
         Ok(map) => map,
         Err(Memory) => return Err(CompileError::Memory),
     };
+    let limit = build.limit;
     match join(alloc, made, &whole, &map, Op::And, limit) {
         Ok(wide) => Ok(wide),
         Err(error) => Err(error),
     }
 }
 
-/// The canonical table of a formula's set over declared variables, by a step for each node, each within the limit of cells.
+/// The canonical table of a formula on all tracks.
+fn on_all_tracks(
+    alloc: Global,
+    build: &Build,
+    formula: &Formula,
+    places: u32,
+) -> Result<Canon, CompileError>
+    requires over { IsOver places (formula_of formula.now) }
+    requires bound { Binds build.now.mode (formula_of formula.now) }
+    requires narrow { IsNarrow build.now.base places (formula_of formula.now) }
+    requires letters { build.now.base ^ places ≤ 4096 }
+    requires limit { build.now.limit ≤ 16777216 }
+    ensures shape { IfOk result (λ c. IsShaped build.now.mode build.now.base places c.table) }
+    ensures made { IfOk result (λ c. IsWide build.now places (formula_of formula.now) c.table) }
+    ensures stands { IfOk result (λ c. Stands c.table (holds (formula_of formula.now))) }
+    ensures heavy { IfErr result (λ e. e ≡ CompileError.Heavy → IsWideHeavy build.now places (formula_of formula.now)) }
+{
+    depends_on_free_places();
+    let made = match part(alloc, build, formula, places) {
+        Ok(made) => made,
+        Err(error) => return Err(error),
+    };
+    if made.table().tracks() == places {
+        return Ok(made);
+    }
+    match widened(alloc, build, formula, &made, places) {
+        Ok(wide) => Ok(wide),
+        Err(error) => Err(error),
+    }
+}
+
+/// What the tables of a formula read.
+fn mode_of(sorts: &[Sort], formula: &Formula) -> Mode
+    ensures { result ≡ mode_of_model (map sort_of sorts.now) (formula_of formula.now) }
+{
+    if all_int(sorts, formula) {
+        Mode::Whole
+    } else {
+        Mode::Mixed
+    }
+}
+
+/// The canonical table of a formula's set over declared variables, by a step for each node, each within the limit of cells: a diagram if
+/// all declared variables are integers, and else a table with fraction states.
 ///
-/// At this stage all variables, declared and bound, are integers, as conditions. The formula is over the declared variables, its terms are
-/// inside the limits of coefficients and constants, its letters are few, and the limit of cells is at most 16,777,216. `Heavy` comes
-/// exactly where a step passes the limit, at the first that does. A bound variable that its body does not use costs no step. `Memory` comes
-/// for want of memory, and also where more than 2^32 - 1 variables are bound in one another.
+/// As conditions, the formula is over the declared variables, its terms are inside the limits of coefficients and constants, its letters
+/// are few, it binds no variable unless all variables are integers, declared and bound, and the limit of cells is at most 16,777,216.
+/// `Heavy` comes exactly if a step passes the limit, at the first that does. A bound variable that its body does not use costs no step.
+/// `Memory` comes if the program is out of memory, and also if more than 2^32 - 1 variables are bound in one another.
 pub fn compile(
     alloc: Global,
     base: Base,
@@ -103,30 +149,27 @@ pub fn compile(
     formula: &Formula,
     limit: u64,
 ) -> Result<Canon, CompileError>
-    requires sorts { map sort_of sorts.now ≡ all_int (length sorts.now) }
     requires over { IsOver (length sorts.now) (formula_of formula.now) }
-    requires bound { BindsIntegers (formula_of formula.now) }
+    requires built { IsBuilt (map sort_of sorts.now) (formula_of formula.now) }
     requires letters { FitsLetters base (formula_of formula.now) (length sorts.now) }
     requires limit { limit ≤ 16777216 }
     ensures stands { IfOk result (λ c. StandsFor c.table (map sort_of sorts.now) (formula_of formula.now)) }
-    ensures canonical { IfOk result (λ c. IsCanonical c.table) }
+    ensures canonical { IfOk result (λ c. IsCanonicalTable c.table) }
     ensures base { IfOk result (λ c. c.table.base ≡ base) }
     ensures tracks { IfOk result (λ c. c.table.tracks ≡ length sorts.now) }
-    ensures made { IfOk result (λ c. IsCompiled base (length sorts.now) limit (formula_of formula.now) c.table) }
-    ensures heavy { IfErr result (λ e. e ≡ CompileError.Heavy → IsRefused base (length sorts.now) limit (formula_of formula.now)) }
+    ensures made { IfOk result (λ c. IsCompiled base limit (map sort_of sorts.now) (formula_of formula.now) c.table) }
+    ensures heavy { IfErr result (λ e. e ≡ CompileError.Heavy → IsRefused base limit (map sort_of sorts.now) (formula_of formula.now)) }
 {
-    depends_on_free_places();
     let _radix = base.radix();
+    let mode = mode_of(sorts, formula);
+    let build = Build { mode, base, limit };
     let places = sorts.len() as u32;
-    let made = match part(alloc, base, formula, places, limit) {
-        Ok(made) => made,
+    let wide = match on_all_tracks(alloc, &build, formula, places) {
+        Ok(wide) => wide,
         Err(error) => return Err(error),
     };
-    if made.table().tracks() == places {
-        return Ok(made);
-    }
-    match widened(alloc, base, formula, &made, places, limit) {
-        Ok(wide) => Ok(wide),
-        Err(error) => Err(error),
+    match mode {
+        Mode::Whole => Ok(wide),
+        Mode::Mixed => with_wholes(alloc, &build, sorts, wide),
     }
 }

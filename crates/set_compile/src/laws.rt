@@ -1,25 +1,29 @@
 //! Laws of compiled formulas.
 
-ghost use Rattle.std.specs.Prelude.{◌≡◌, ℕ};
-ghost use Rattle.lash_model.specs.Formulas.{Formula};
+ghost use Rattle.std.specs.Prelude.{◌≡◌, ℕ, List};
+ghost use Rattle.lash_model.specs.Formulas.{Sort, Formula};
 ghost use Rattle.lash_model.specs.Tables.{Table};
-ghost use Rattle.set_compile.specs.Steps.{IsMade, IsCompiled, IsRefused};
+ghost use Rattle.set_compile.specs.Compiling.{IsCompiled, IsRefused};
+ghost use Rattle.set_compile.specs.Steps.{IsMade};
+ghost use Rattle.set_compile.specs.declared.build.Build.{Build as BuildOfModel};
 
-use linear_atoms::heavy_or_table;
-use product_ops::heavy_or_pairs;
+use linear_atoms::{heavy_or_real_table, heavy_or_table};
+use product_ops::{heavy_or_mixed_pairs, heavy_or_pairs};
 use subset_build::heavy_or_subsets;
 
 /// A formula has one table: over its free variables, and over all that are declared.
 pub fn tables_are_unique()
-    ensures made { (base m limit : ℕ) (f : Formula) (t u : Table) → IsMade base m limit f t → IsMade base m limit f u → t ≡ u }
-    ensures compiled { (base m limit : ℕ) (f : Formula) (t u : Table) → IsCompiled base m limit f t → IsCompiled base m limit f u → t ≡ u }
+    ensures made { (b : BuildOfModel) (m : ℕ) (f : Formula) (t u : Table) → IsMade b m f t → IsMade b m f u → t ≡ u }
+    ensures compiled { (base limit : ℕ) (sorts : List Sort) (f : Formula) (t u : Table) → IsCompiled base limit sorts f t → IsCompiled base limit sorts f u → t ≡ u }
 {}
 
 /// A refused formula has no table within the limit.
 pub fn heavy_or_compiled()
-    ensures { (base m limit : ℕ) (f : Formula) (t : Table) → IsRefused base m limit f → IsCompiled base m limit f t → ⊥ }
+    ensures { (base limit : ℕ) (sorts : List Sort) (f : Formula) (t : Table) → IsRefused base limit sorts f → IsCompiled base limit sorts f t → ⊥ }
 {
     heavy_or_table();
+    heavy_or_real_table();
     heavy_or_pairs();
+    heavy_or_mixed_pairs();
     heavy_or_subsets();
 }

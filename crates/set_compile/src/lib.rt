@@ -1,16 +1,22 @@
-//! Formulas of linear arithmetic over integers, compiled to canonical automata.
+//! Formulas of linear arithmetic over integers and reals, compiled to canonical automata.
 #![tactic(auto)]
 
 mod atoms;
 mod binding;
+mod build;
+mod built;
 mod compiling;
 mod errors;
 mod joining;
 mod laws;
+mod minimizing;
 mod negation;
 mod nodes;
 mod positions;
+mod wholes;
 
+pub use build::Mode;
+pub use built::is_built;
 pub use compiling::compile;
 pub use errors::CompileError;
 pub use laws::{heavy_or_compiled, tables_are_unique};

@@ -1,42 +1,55 @@
-//! The step of a negation: the complement of a canonical table, which is canonical itself. It has no cells.
+//! The step of a negation: the complement of a canonical table. It has no cells.
 
-ghost use Rattle.std.specs.Prelude.{◌≡◌, ℕ, ℤ, List, IfOk, IfErr};
+ghost use Rattle.std.specs.Prelude.{◌≡◌, ◌<◌, ℕ, ℤ, List, IfOk, IfErr};
 ghost use Rattle.lash_model.specs.Formulas.{Formula};
-ghost use Rattle.lash_model.specs.Tables.{IsDiagram};
-ghost use Rattle.lash_model.specs.Standing.{StandsForWhole};
+ghost use Rattle.lash_model.specs.Tables.{fracs, IsDiagram};
 ghost use Rattle.lash_model.specs.Sets.{set_of};
-ghost use Rattle.canonical_laws.specs.Canonical.{IsCanonical};
-ghost use Rattle.product_ops.specs.Negation.{negated, AcceptsOthers};
-ghost use Rattle.set_compile.specs.Steps.{IsShaped};
+ghost use Rattle.set_compile.specs.Kinds.{IsOfMode, Stands, AcceptOthers, IsShaped};
+ghost use Rattle.set_compile.specs.declared.build.Mode.{Mode as ModeOfModel};
 
 use crate::CompileError;
-use packed_cells::Packed;
+use crate::minimizing::minimized;
 use product_ops::complement;
-use step_tables::Table;
+use std::alloc::Global;
 use weak_min::Canon;
 
-/// The diagram with the opposite answers.
-fn exchanged(part: Canon) -> Table<Packed>
+/// The opposite of a diagram. States that behave alike do so with exchanged outputs too, so nothing is left to be made canonical.
+fn opposite_diagram(part: Canon) -> Canon
     requires { IsDiagram part.table }
-    ensures changed { result ≡ record part { table = negated part.table } }
-    ensures diagram { IsDiagram result.table }
-    ensures canonical { IsCanonical result.table }
-    ensures words { AcceptsOthers part.table result.table }
-    ensures stands { (f : Formula) (s : List ℤ → List ℤ) → StandsForWhole part.table (set_of f s) → StandsForWhole result.table (λ ns d. set_of f s ns d → ⊥) }
+    ensures shape { (mode : ModeOfModel) → IsOfMode mode part.table → IsShaped mode part.table.base part.table.tracks result.table }
+    ensures others { AcceptOthers part.table result.table }
+    ensures stands { (f : Formula) (s : List ℤ → List ℤ) → Stands part.table (set_of f s) → Stands result.table (λ ns d. set_of f s ns d → ⊥) }
 {
     let mut table = part.into_table();
     complement(&mut table);
-    table
+    Canon::new(table)
 }
 
-/// The canonical diagram that accepts what the given one does not. States that behave alike do so with exchanged outputs too, so nothing
-/// is left to be made canonical.
-pub fn opposite(part: Canon) -> Result<Canon, CompileError>
-    requires { IsDiagram part.table }
-    ensures shape { IfOk result (λ c. IsShaped part.table.base part.table.tracks c.table) }
-    ensures words { IfOk result (λ c. AcceptsOthers part.table c.table) }
-    ensures stands { IfOk result (λ c. (f : Formula) (s : List ℤ → List ℤ) → StandsForWhole part.table (set_of f s) → StandsForWhole c.table (λ ns d. set_of f s ns d → ⊥)) }
+/// The opposite of a table with fraction states. The colours of states on no loop are those of ranks, which must be found again.
+fn opposite_fractions(alloc: Global, part: Canon) -> Result<Canon, CompileError>
+    requires { 0 < fracs part.table }
+    ensures shape { IfOk result (λ c. (mode : ModeOfModel) → IsOfMode mode part.table → IsShaped mode part.table.base part.table.tracks c.table) }
+    ensures others { IfOk result (λ c. AcceptOthers part.table c.table) }
+    ensures stands { IfOk result (λ c. (f : Formula) (s : List ℤ → List ℤ) → Stands part.table (set_of f s) → Stands c.table (λ ns d. set_of f s ns d → ⊥)) }
     ensures never { IfErr result (λ e. e ≡ CompileError.Memory) }
 {
-    Ok(Canon::new(exchanged(part)))
+    let mut table = part.into_table();
+    complement(&mut table);
+    match minimized(alloc, &table) {
+        Ok(made) => Ok(made),
+        Err(error) => Err(error),
+    }
+}
+
+/// The canonical table that accepts what the given one does not.
+pub fn opposite(alloc: Global, part: Canon) -> Result<Canon, CompileError>
+    ensures shape { IfOk result (λ c. (mode : ModeOfModel) → IsOfMode mode part.table → IsShaped mode part.table.base part.table.tracks c.table) }
+    ensures others { IfOk result (λ c. AcceptOthers part.table c.table) }
+    ensures stands { IfOk result (λ c. (f : Formula) (s : List ℤ → List ℤ) → Stands part.table (set_of f s) → Stands c.table (λ ns d. set_of f s ns d → ⊥)) }
+    ensures never { IfErr result (λ e. e ≡ CompileError.Memory) }
+{
+    if part.table().fracs() == 0 {
+        return Ok(opposite_diagram(part));
+    }
+    opposite_fractions(alloc, part)
 }

@@ -2,7 +2,7 @@
 
 ghost use Rattle.std.specs.Prelude.{◌≡◌, ◌+◌, ◌<◌, ◌≤◌, ◌^◌, ℕ, [], ◌∷◌, pos, unsigned_abs, IfOk};
 ghost use Rattle.formula_core.specs.Shape.{formula_of};
-ghost use Rattle.set_compile.specs.Conditions.{IsTermOver, IsOver, BindsIntegers};
+ghost use Rattle.set_compile.specs.Conditions.{IsTermOver, IsOver};
 
 use super::*;
 use crate::atoms::append;
@@ -22,7 +22,6 @@ fn at_most(alloc: Global, coefficient: &i128, constant: &i128) -> Result<Formula
     requires small { unsigned_abs coefficient.now ≤ 2 ^ 24 }
     requires low { unsigned_abs constant.now ≤ 2 ^ 40 }
     ensures over { IfOk result (λ f. (m : ℕ) → 0 < m → IsOver m (formula_of f)) }
-    ensures bound { IfOk result (λ f. BindsIntegers (formula_of f)) }
 {
     match term(alloc, 0, coefficient, constant) {
         Ok(term) => Ok(Formula::Le(term)),
@@ -36,7 +35,6 @@ fn next_at_most(alloc: Global, coefficient: &i128, constant: &i128) -> Result<Fo
     requires small { unsigned_abs coefficient.now ≤ 2 ^ 24 }
     requires low { unsigned_abs constant.now ≤ 2 ^ 40 }
     ensures over { IfOk result (λ f. (m : ℕ) → 1 < m → IsOver m (formula_of f)) }
-    ensures bound { IfOk result (λ f. BindsIntegers (formula_of f)) }
 {
     match term(alloc, 1, coefficient, constant) {
         Ok(term) => Ok(Formula::Le(term)),
@@ -50,7 +48,6 @@ fn equal(alloc: Global, coefficient: &i128, constant: &i128) -> Result<Formula, 
     requires small { unsigned_abs coefficient.now ≤ 2 ^ 24 }
     requires low { unsigned_abs constant.now ≤ 2 ^ 40 }
     ensures over { IfOk result (λ f. (m : ℕ) → 0 < m → IsOver m (formula_of f)) }
-    ensures bound { IfOk result (λ f. BindsIntegers (formula_of f)) }
 {
     match term(alloc, 0, coefficient, constant) {
         Ok(term) => Ok(Formula::Eq(term)),
@@ -72,7 +69,6 @@ fn sum_equal(
     requires small { unsigned_abs first.now + unsigned_abs second.now ≤ 2 ^ 24 }
     requires low { unsigned_abs constant.now ≤ 2 ^ 40 }
     ensures over { IfOk result (λ f. (m : ℕ) → place < m → IsOver m (formula_of f)) }
-    ensures bound { IfOk result (λ f. BindsIntegers (formula_of f)) }
 {
     let mut term = match term(alloc, 0, first, constant) {
         Ok(term) => term,
@@ -100,9 +96,7 @@ fn term(alloc: Global, place: u32, coefficient: &i128, constant: &i128) -> Resul
 }
 
 fn not(alloc: Global, inner: Formula) -> Result<Formula, Memory>
-    requires bound { BindsIntegers (formula_of inner) }
     ensures over { IfOk result (λ f. (m : ℕ) → IsOver m (formula_of inner) → IsOver m (formula_of f)) }
-    ensures bound { IfOk result (λ f. BindsIntegers (formula_of f)) }
 {
     match Box::new(alloc, inner) {
         Ok(inner) => Ok(Formula::Not(inner)),
@@ -111,10 +105,7 @@ fn not(alloc: Global, inner: Formula) -> Result<Formula, Memory>
 }
 
 fn and(alloc: Global, left: Formula, right: Formula) -> Result<Formula, Memory>
-    requires left_bound { BindsIntegers (formula_of left) }
-    requires right_bound { BindsIntegers (formula_of right) }
     ensures over { IfOk result (λ f. (m : ℕ) → IsOver m (formula_of left) → IsOver m (formula_of right) → IsOver m (formula_of f)) }
-    ensures bound { IfOk result (λ f. BindsIntegers (formula_of f)) }
 {
     let first = match Box::new(alloc, left) {
         Ok(first) => first,
@@ -127,10 +118,7 @@ fn and(alloc: Global, left: Formula, right: Formula) -> Result<Formula, Memory>
 }
 
 fn or(alloc: Global, left: Formula, right: Formula) -> Result<Formula, Memory>
-    requires left_bound { BindsIntegers (formula_of left) }
-    requires right_bound { BindsIntegers (formula_of right) }
     ensures over { IfOk result (λ f. (m : ℕ) → IsOver m (formula_of left) → IsOver m (formula_of right) → IsOver m (formula_of f)) }
-    ensures bound { IfOk result (λ f. BindsIntegers (formula_of f)) }
 {
     let first = match Box::new(alloc, left) {
         Ok(first) => first,
@@ -144,9 +132,7 @@ fn or(alloc: Global, left: Formula, right: Formula) -> Result<Formula, Memory>
 
 /// For some integer, at the next place.
 fn exists(alloc: Global, body: Formula) -> Result<Formula, Memory>
-    requires bound { BindsIntegers (formula_of body) }
     ensures over { IfOk result (λ f. (m : ℕ) → IsOver (m + 1) (formula_of body) → IsOver m (formula_of f)) }
-    ensures bound { IfOk result (λ f. BindsIntegers (formula_of f)) }
 {
     match Box::new(alloc, body) {
         Ok(body) => Ok(Formula::Exists(Sort::Int, body)),
@@ -162,7 +148,6 @@ fn over_none(
     limit: u64,
 ) -> Result<Canon, CompileError>
     requires over { IsOver 0 (formula_of formula.now) }
-    requires bound { BindsIntegers (formula_of formula.now) }
     requires limit { limit ≤ 16777216 }
 {
     let two = match Base::new(2) {
@@ -170,6 +155,7 @@ fn over_none(
         None => return Err(CompileError::Memory),
     };
     assert!(rt; fits_letters(two, formula, 0));
+    assert!(rt; is_built(&[], formula));
     compile(alloc, two, &[], formula, limit)
 }
 
@@ -181,7 +167,6 @@ fn over_one(
     limit: u64,
 ) -> Result<Canon, CompileError>
     requires over { IsOver 1 (formula_of formula.now) }
-    requires bound { BindsIntegers (formula_of formula.now) }
     requires limit { limit ≤ 16777216 }
 {
     let two = match Base::new(2) {
@@ -189,6 +174,7 @@ fn over_one(
         None => return Err(CompileError::Memory),
     };
     assert!(rt; fits_letters(two, formula, 1));
+    assert!(rt; is_built(&[Sort::Int], formula));
     compile(alloc, two, &[Sort::Int], formula, limit)
 }
 
@@ -200,7 +186,6 @@ fn over_two(
     limit: u64,
 ) -> Result<Canon, CompileError>
     requires over { IsOver 2 (formula_of formula.now) }
-    requires bound { BindsIntegers (formula_of formula.now) }
     requires limit { limit ≤ 16777216 }
 {
     let two = match Base::new(2) {
@@ -208,7 +193,46 @@ fn over_two(
         None => return Err(CompileError::Memory),
     };
     assert!(rt; fits_letters(two, formula, 2));
+    assert!(rt; is_built(&[Sort::Int, Sort::Int], formula));
     compile(alloc, two, &[Sort::Int, Sort::Int], formula, limit)
+}
+
+/// Over one real, in base 2.
+fn over_real(
+    rt: &impl Abort,
+    alloc: Global,
+    formula: &Formula,
+    limit: u64,
+) -> Result<Canon, CompileError>
+    requires over { IsOver 1 (formula_of formula.now) }
+    requires limit { limit ≤ 16777216 }
+{
+    let two = match Base::new(2) {
+        Some(two) => two,
+        None => return Err(CompileError::Memory),
+    };
+    assert!(rt; fits_letters(two, formula, 1));
+    assert!(rt; is_built(&[Sort::Real], formula));
+    compile(alloc, two, &[Sort::Real], formula, limit)
+}
+
+/// Over an integer and a real, in base 2.
+fn over_both(
+    rt: &impl Abort,
+    alloc: Global,
+    formula: &Formula,
+    limit: u64,
+) -> Result<Canon, CompileError>
+    requires over { IsOver 2 (formula_of formula.now) }
+    requires limit { limit ≤ 16777216 }
+{
+    let two = match Base::new(2) {
+        Some(two) => two,
+        None => return Err(CompileError::Memory),
+    };
+    assert!(rt; fits_letters(two, formula, 2));
+    assert!(rt; is_built(&[Sort::Int, Sort::Real], formula));
+    compile(alloc, two, &[Sort::Int, Sort::Real], formula, limit)
 }
 
 fn is_heavy(rt: &impl Abort, made: Result<Canon, CompileError>) {
@@ -236,6 +260,22 @@ fn roots_are(rt: &impl Abort, table: &Table<Packed>, roots: &[u32]) {
     assert!(rt; table.tracks() <= 2 && 2usize.pow(table.tracks()) == roots.len());
     for sign in 0..2u32.pow(table.tracks()) {
         assert_eq!(rt; table.root(sign), roots[sign as usize]);
+    }
+}
+
+/// The outputs of a table with fraction states, and the colours of these.
+fn parts_are(rt: &impl Abort, table: &Table<Packed>, outs: &[u32], colours: &[bool]) {
+    outs_are(rt, table, outs);
+    assert!(rt; table.fracs() as usize == colours.len());
+    for state in 0..table.fracs() {
+        assert_eq!(rt; table.colour(state), colours[state as usize]);
+    }
+}
+
+fn fraction_row_is(rt: &impl Abort, table: &Table<Packed>, state: u32, row: &[u32]) {
+    assert!(rt; state < table.fracs() && table.letters() as usize == row.len());
+    for letter in 0..table.letters() {
+        assert_eq!(rt; table.frac_step(state, letter), row[letter as usize]);
     }
 }
 
@@ -327,7 +367,6 @@ fn a_bound_variable(rt: HostRuntime) -> Result<(), Fail> {
 /// For some y, y = 4x and y is at least 8.
 fn fourfold_is_high(alloc: Global) -> Result<Formula, Memory>
     ensures over { IfOk result (λ f. IsOver 1 (formula_of f)) }
-    ensures bound { IfOk result (λ f. BindsIntegers (formula_of f)) }
 {
     let fourfold = match sum_equal(alloc, &-4, 1, &1, &0) {
         Ok(fourfold) => fourfold,
@@ -360,7 +399,6 @@ fn heavy_subsets(rt: HostRuntime) -> Result<(), Fail> {
 /// For some y, x = 4y or 4x + 3y = -1.
 fn one_of_two(alloc: Global) -> Result<Formula, Memory>
     ensures over { IfOk result (λ f. IsOver 1 (formula_of f)) }
-    ensures bound { IfOk result (λ f. BindsIntegers (formula_of f)) }
 {
     let fourth = match sum_equal(alloc, &-1, 1, &4, &0) {
         Ok(fourth) => fourth,
@@ -390,7 +428,6 @@ fn an_unused_bound_variable(rt: HostRuntime) -> Result<(), Fail> {
 /// For some y, x is at most 3.
 fn low_for_some(alloc: Global) -> Result<Formula, Memory>
     ensures over { IfOk result (λ f. IsOver 1 (formula_of f)) }
-    ensures bound { IfOk result (λ f. BindsIntegers (formula_of f)) }
 {
     match at_most(alloc, &1, &3) {
         Ok(low) => exists(alloc, low),
@@ -413,7 +450,6 @@ fn bound_variables_in_one_another(rt: HostRuntime) -> Result<(), Fail> {
 /// For some y, for some z, x = 3z.
 fn threefold(alloc: Global) -> Result<Formula, Memory>
     ensures over { IfOk result (λ f. IsOver 1 (formula_of f)) }
-    ensures bound { IfOk result (λ f. BindsIntegers (formula_of f)) }
 {
     let body = match sum_equal(alloc, &1, 2, &-3, &0) {
         Ok(body) => body,
@@ -440,7 +476,6 @@ fn a_true_sentence(rt: HostRuntime) -> Result<(), Fail> {
 /// Some y is at least 8.
 fn some_is_high(alloc: Global) -> Result<Formula, Memory>
     ensures over { IfOk result (λ f. IsOver 0 (formula_of f)) }
-    ensures bound { IfOk result (λ f. BindsIntegers (formula_of f)) }
 {
     match at_most(alloc, &-1, &-8) {
         Ok(high) => exists(alloc, high),
@@ -460,10 +495,98 @@ fn a_false_sentence(rt: HostRuntime) -> Result<(), Fail> {
 /// For some y, 3y = 5.
 fn five_thirds(alloc: Global) -> Result<Formula, Memory>
     ensures over { IfOk result (λ f. IsOver 0 (formula_of f)) }
-    ensures bound { IfOk result (λ f. BindsIntegers (formula_of f)) }
 {
     match equal(alloc, &3, &5) {
         Ok(body) => exists(alloc, body),
         Err(Memory) => Err(Memory),
     }
+}
+
+// Over the reals the same atom has 27 cells.
+#[test]
+fn a_real_atom(rt: HostRuntime) -> Result<(), Fail> {
+    let formula = at_most(rt.alloc(), &1, &3)?;
+    let made = over_real(&rt, rt.alloc(), &formula, 27)?;
+    roots_are(&rt, made.table(), &[0, 1]);
+    parts_are(&rt, made.table(), &[0, 0, 0, 0, 1, 2], &[true, true, false]);
+    row_is(&rt, made.table(), 2, &[3, 4]);
+    fraction_row_is(&rt, made.table(), 1, &[1, 2]);
+    is_heavy(&rt, over_real(&rt, rt.alloc(), &formula, 26));
+    Ok(())
+}
+
+// Its complement costs no cells.
+#[test]
+fn a_real_negation(rt: HostRuntime) -> Result<(), Fail> {
+    let low = at_most(rt.alloc(), &1, &3)?;
+    let formula = not(rt.alloc(), low)?;
+    let made = over_real(&rt, rt.alloc(), &formula, 27)?;
+    parts_are(
+        &rt,
+        made.table(),
+        &[0, 0, 0, 0, 1, 2],
+        &[false, false, true],
+    );
+    fraction_row_is(&rt, made.table(), 1, &[1, 2]);
+    Ok(())
+}
+
+// x is 1 or 0. The atoms have 21 cells each, and their pairs 50.
+#[test]
+fn a_real_disjunction(rt: HostRuntime) -> Result<(), Fail> {
+    let one = equal(rt.alloc(), &1, &1)?;
+    let zero = equal(rt.alloc(), &1, &0)?;
+    let formula = or(rt.alloc(), one, zero)?;
+    let made = over_real(&rt, rt.alloc(), &formula, 50)?;
+    roots_are(&rt, made.table(), &[0, 1]);
+    parts_are(&rt, made.table(), &[0, 1, 2, 3], &[true, true, true, false]);
+    fraction_row_is(&rt, made.table(), 0, &[2, 1]);
+    is_heavy(&rt, over_real(&rt, rt.alloc(), &formula, 49));
+    Ok(())
+}
+
+// The double of the real is the integer: the atom has 55 cells, the whole numbers 15, and their pairs 147.
+#[test]
+fn a_half_of_an_integer(rt: HostRuntime) -> Result<(), Fail> {
+    let formula = sum_equal(rt.alloc(), &-1, 1, &2, &0)?;
+    let made = over_both(&rt, rt.alloc(), &formula, 147)?;
+    roots_are(&rt, made.table(), &[0, 1, 2, 3]);
+    row_is(&rt, made.table(), 3, &[1, 0, 4, 3]);
+    parts_are(
+        &rt,
+        made.table(),
+        &[0, 1, 2, 3, 4],
+        &[true, true, true, true, false, true, true],
+    );
+    fraction_row_is(&rt, made.table(), 0, &[5, 4, 6, 2]);
+    is_heavy(&rt, over_both(&rt, rt.alloc(), &formula, 146));
+    Ok(())
+}
+
+// The integer is not used: the largest step is the pairs with the whole numbers on its track, which have 105 cells.
+#[test]
+fn an_unused_integer(rt: HostRuntime) -> Result<(), Fail> {
+    let formula = next_at_most(rt.alloc(), &1, &0)?;
+    let made = over_both(&rt, rt.alloc(), &formula, 105)?;
+    roots_are(&rt, made.table(), &[0, 1, 0, 1]);
+    parts_are(
+        &rt,
+        made.table(),
+        &[0, 1, 2],
+        &[true, true, false, true, true, true, true],
+    );
+    fraction_row_is(&rt, made.table(), 1, &[5, 5, 6, 6]);
+    is_heavy(&rt, over_both(&rt, rt.alloc(), &formula, 104));
+    Ok(())
+}
+
+// Beside a real variable no variable is bound so far.
+#[test]
+fn built_formulas(rt: HostRuntime) -> Result<(), Fail> {
+    let formula = threefold(rt.alloc())?;
+    assert!(&rt; is_built(&[Sort::Int], &formula));
+    assert!(&rt; !is_built(&[Sort::Real], &formula));
+    let formula = at_most(rt.alloc(), &1, &3)?;
+    assert!(&rt; is_built(&[Sort::Real], &formula));
+    Ok(())
 }

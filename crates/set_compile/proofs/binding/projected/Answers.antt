@@ -1,23 +1,44 @@
-use Rattle.std.proofs.Common.{◌≡◌, arith, sym, subst}
+use Rattle.std.proofs.Common.{◌≡◌, refl, arith, ◌∙◌, sym, subst}
 use Rattle.lash_model.specs.Standing.{StandsForWhole}
 use Rattle.lash_model.specs.Sets.{set_of, bound_at}
+use Rattle.canonical_laws.specs.Canonical.{AcceptSameWords}
 use Rattle.canonical_laws.proofs.Carrying.{stands_carried}
 use Rattle.step_tables.specs.Kept.{Kept}
 use Rattle.subset_build.specs.Projection.{kept}
+use Rattle.set_compile.specs.Kinds.{IsShaped}
 use Rattle.set_compile.specs.Steps.{IsOfSubsets}
-use Rattle.set_compile.proofs.Minimizing.{some_kept}
+use Rattle.set_compile.specs.declared.build.Mode.TheVariants.{Whole}
+use Rattle.set_compile.proofs.Carrying.{some_kept}
+use Rattle.set_compile.proofs.Modes.{diagram_too, same_words}
 use Rattle.set_compile.proofs.binding.projected.Goals as goal
 
-pub returns-in-Ok-canonical-clause-made : goal.returns-in-Ok-canonical-clause-made
-returns-in-Ok-canonical-clause-made c =
+pub returns-in-Ok-minimized-clause-shape : goal.returns-in-Ok-minimized-clause-shape
+returns-in-Ok-minimized-clause-shape c =
+    let b : Kept = c.table.result.now in
+    let s = c.in-Ok-minimized.ensures.shape Whole c.in-Ok.ensures.diagram in
+    let shape : IsShaped Whole b.table.base (kept b.table) c.in-Ok-minimized.made.table =
+    record { canonical = s.canonical; kind = s.kind; base_is = s.base_is ∙ c.in-Ok.ensures.base; tracks_are = omega (arith, s.tracks_are, c.in-Ok.ensures.tracks) } in
+    subst (λ (k : Kept). IsShaped Whole k.table.base (kept k.table) c.in-Ok-minimized.made.table) c.table.ensures.value shape
+
+pub returns-in-Ok-minimized-clause-made : goal.returns-in-Ok-minimized-clause-made
+returns-in-Ok-minimized-clause-made c =
     let b : Kept = c.table.result.now in
     let t = c.in-Ok.table.table in
-    let u = c.in-Ok-canonical.made.table in
+    let u = c.in-Ok-minimized.made.table in
     let tracks : t.tracks ≡ kept b.table = omega (arith, c.in-Ok.ensures.tracks) in
-    let made : IsOfSubsets b.table c.args.track c.args.limit u = record { subset_table = t; counts = c.in-Ok.ensures.subsets; words = some_kept b.table c.args.track t u c.in-Ok.ensures.base tracks c.in-Ok.ensures.words (c.in-Ok-canonical.ensures.words c.in-Ok.ensures.diagram) } in
-    subst (λ (k : Kept). IsOfSubsets k.table c.args.track c.args.limit u) c.table.ensures.value made
+    let words : AcceptSameWords t u = same_words t u c.in-Ok.ensures.diagram c.in-Ok-minimized.ensures.same in
+    let made : IsOfSubsets Whole b.table c.args.track c.args.limit u = record {
+      whole = refl;
+      subset_table = t;
+      counts = c.in-Ok.ensures.subsets;
+      words = some_kept b.table c.args.track t u c.in-Ok.ensures.base tracks c.in-Ok.ensures.words words;
+    } in
+    subst (λ (k : Kept). IsOfSubsets Whole k.table c.args.track c.args.limit u) c.table.ensures.value made
 
-pub returns-in-Ok-canonical-clause-stands : goal.returns-in-Ok-canonical-clause-stands
-returns-in-Ok-canonical-clause-stands c = λ f s p.
-    stands_carried c.in-Ok.table.table c.in-Ok-canonical.made.table (bound_at c.args.track (set_of f s)) (sym c.in-Ok-canonical.ensures.base) (sym c.in-Ok-canonical.ensures.tracks) (c.in-Ok-canonical.ensures.diagram c.in-Ok.ensures.diagram).diagram (c.in-Ok-canonical.ensures.words c.in-Ok.ensures.diagram)
+pub returns-in-Ok-minimized-clause-stands : goal.returns-in-Ok-minimized-clause-stands
+returns-in-Ok-minimized-clause-stands c = λ f s p.
+    let t = c.in-Ok.table.table in
+    let u = c.in-Ok-minimized.made.table in
+    stands_carried t u (bound_at c.args.track (set_of f s)) (sym c.in-Ok-minimized.ensures.base) (sym c.in-Ok-minimized.ensures.tracks)
+    (diagram_too t u c.in-Ok-minimized.ensures.kind c.in-Ok.ensures.diagram) (same_words t u c.in-Ok.ensures.diagram c.in-Ok-minimized.ensures.same)
     (c.in-Ok.ensures.stands f s (subst (λ (k : Kept). StandsForWhole k.table (set_of f s)) (sym c.table.ensures.value) p))

@@ -1,4 +1,5 @@
-use Rattle.set_compile.proofs.Making.{one_made, one_compiled}
+use Rattle.set_compile.proofs.Compiled.{one_compiled}
+use Rattle.set_compile.proofs.Making.{one_made}
 use Rattle.set_compile.proofs.laws.tables_are_unique.Goals as goal
 
 pub returns-clause-made : goal.returns-clause-made
