@@ -1,9 +1,8 @@
 -- Fractions over one denominator: the product of theirs.
-use Rattle.std.proofs.Common.{◌≡◌, ℕ, zero, suc, ◌+◌, ◌*◌, ◌<◌, List, [], ◌∷◌, length, arith, refl, sym, ap, ◌∙◌, subst, None, Some}
+use Rattle.std.proofs.Common.{◌≡◌, ℕ, zero, suc, ◌*◌, ◌<◌, List, [], ◌∷◌, arith, refl, sym, ap, ◌∙◌, subst, Some}
 use Rattle.std.proofs.Math.IntN.{ℤ, pos, negsuc, ◌*ℤ◌, pos-*ℤ-pos}
-use Rattle.std.specs.Prelude.{◌≤ℤ◌, slice_get, is_some}
+use Rattle.std.specs.Prelude.{◌≤ℤ◌, slice_get}
 use Rattle.std.specs.List.{slice_index_or}
-use Rattle.std.proofs.lemmas.Bool.{true≢false}
 use Rattle.std.proofs.lemmas.Int.{ints}
 use Rattle.integer_laws.specs.Vectors.{scale}
 use Rattle.integer_laws.proofs.Ring.{times_comm, times_assoc, times_zero}
@@ -38,7 +37,8 @@ option_same : {A : Type 0} {x y : A} → Some x ≡ Some y → x ≡ y
 option_same {x = x} e = cc
 
 -- a fraction in front of a vector
-in_front : (v : Ratio) (vs : List Ratio) (ns : List ℤ) (d m : ℕ) → v.den ≡ pos (suc m) → IsVectorOf vs ns d → IsVectorOf (v ∷ vs) ((v.num *ℤ pos d) ∷ scale (suc m) ns) (suc m * d)
+in_front : (v : Ratio) (vs : List Ratio) (ns : List ℤ) (d m : ℕ) → v.den ≡ pos (suc m) → IsVectorOf vs ns d
+    → IsVectorOf (v ∷ vs) ((v.num *ℤ pos d) ∷ scale (suc m) ns) (suc m * d)
 in_front v vs ns d m den h = record {
   positive = product m d h.positive;
   count = ap suc (length-scale (suc m) ns ∙ h.count);
@@ -48,7 +48,8 @@ in_front v vs ns d m den h = record {
     product : (m d : ℕ) → 0 < d → 0 < suc m * d
     product m d lt = omega (arith, lt)
 
-    same : (i : ℕ) (w : Ratio) → slice_get (v ∷ vs) i ≡ Some w → slice_index_or ((v.num *ℤ pos d) ∷ scale (suc m) ns) i (pos 0) *ℤ w.den ≡ w.num *ℤ pos (suc m * d)
+    same : (i : ℕ) (w : Ratio) → slice_get (v ∷ vs) i ≡ Some w
+        → slice_index_or ((v.num *ℤ pos d) ∷ scale (suc m) ns) i (pos 0) *ℤ w.den ≡ w.num *ℤ pos (suc m * d)
     same zero w e = subst (λ (w : Ratio). (v.num *ℤ pos d) *ℤ w.den ≡ w.num *ℤ pos (suc m * d)) (option_same e)
         (times_assoc v.num (pos d) v.den ∙ ap (λ y. v.num *ℤ y) (ap (λ y. pos d *ℤ y) den ∙ times_comm (pos d) (pos (suc m)) ∙ pos-*ℤ-pos (suc m) d))
     same (suc i) w e = ap (λ y. y *ℤ w.den) (entry_scaled (suc m) ns i) ∙ multiplied (slice_index_or ns i (pos 0)) w.num w.den (suc m) d (h.same i w e)
@@ -61,4 +62,9 @@ have_vectors [] h = record { numerators = []; denominator = 1; is = record { pos
 have_vectors (v ∷ vs) h =
     let rest = have_vectors vs (λ k w lt. h (suc k) w (omega (arith, lt))) in
     let den = number_of v.den (h 0 v (omega arith)) in
-    record { numerators = (v.num *ℤ pos rest.denominator) ∷ scale (suc den.number) rest.numerators; denominator = suc den.number * rest.denominator; is = in_front v vs rest.numerators rest.denominator den.number den.is rest.is }
+    record {
+      numerators = (v.num *ℤ pos rest.denominator) ∷ scale (suc den.number) rest.numerators;
+      denominator = suc den.number * rest.denominator;
+      is =
+          in_front v vs rest.numerators rest.denominator den.number den.is rest.is;
+    }

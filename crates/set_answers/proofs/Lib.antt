@@ -1,13 +1,13 @@
-pub mod IntegerSorts
+pub mod SortKinds
 pub mod VectorWords
-pub mod Diagrams
 pub mod SolvingWords
 pub mod Agreeing
-pub mod SharedTracks
 pub mod Including
 pub mod WholeFractions
+pub mod SamePoints
 pub mod UniqueValues
 pub mod Solved
+pub mod Differing
 pub mod Members
 pub mod LineParts
 pub mod Truth

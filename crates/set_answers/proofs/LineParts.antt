@@ -1,6 +1,6 @@
 -- The parts of a solution's text, as the code puts them.
-use Rattle.std.proofs.Common.{◌≡◌, ℕ, Bool, true, false, List, [], ◌∷◌, ◌++◌, length, codes, Option, None, ◌∙◌, sym, ap}
-use Rattle.std.proofs.Math.IntN.{ℤ, pos}
+use Rattle.std.proofs.Common.{◌≡◌, ℕ, Bool, false, List, [], ◌++◌, codes, None, ◌∙◌, sym, ap}
+use Rattle.std.proofs.Math.IntN.{pos}
 use Rattle.std.specs.Prelude.{if◌then◌else◌}
 use Rattle.std.specs.Fmt.{signed_decimal}
 use Rattle.std.specs.Ordering.{int_eq}
@@ -10,15 +10,20 @@ use Rattle.formula_core.specs.Variables.{names_of}
 use Rattle.fraction_codes.specs.DigitText.{track_text}
 use Rattle.fraction_codes.specs.declared.ratio.Ratio.{Ratio}
 use Rattle.digit_codes.specs.Reading.{lasso_of}
-use Rattle.set_answers.specs.Solving.{ratio_text, value_text, solution_line, solution_text}
+use Rattle.set_answers.specs.Solving.{ratio_text, value_text, solution_text}
 use Rattle.set_answers.specs.Writing.{IsAnswer, line_of, lines_of, text_of_answer}
 use Rattle.set_answers.specs.declared.lines.Answer.{Answer}
 
 -- a line of a variable's name and the digits of its track
 pub line_is : (a : Answer) (i : ℕ) (name : List ℕ) → IsAnswer a → name ≡ slice_index_or (names_of a.vars.now) i []
-    → name ++ (codes " " ++ (value_text (slice_index_or a.found.now i None) ++ (codes " " ++ (track_text a.base a.tracks i (lasso_of a.lasso.now) false ++ codes "\n")))) ≡ line_of a i
-line_is a i name h e = ap (λ xs. xs ++ (codes " " ++ (value_text (slice_index_or a.found.now i None) ++ (codes " " ++ (track_text a.base a.tracks i (lasso_of a.lasso.now) false ++ codes "\n"))))) e
-    ∙ ap (λ n. slice_index_or (names_of a.vars.now) i [] ++ (codes " " ++ (value_text (slice_index_or a.found.now i None) ++ (codes " " ++ (track_text a.base n i (lasso_of a.lasso.now) false ++ codes "\n"))))) (sym h.variables)
+    → name ++ (codes " " ++ (value_text (slice_index_or a.found.now i None) ++
+    (codes " " ++ (track_text a.base a.tracks i (lasso_of a.lasso.now) a.fraction ++ codes "\n")))) ≡ line_of a i
+line_is a i name h e =
+    ap (λ xs. xs ++ (codes " " ++ (value_text (slice_index_or a.found.now i None) ++
+    (codes " " ++ (track_text a.base a.tracks i (lasso_of a.lasso.now) a.fraction ++ codes "\n"))))) e
+    ∙ ap (λ n. slice_index_or (names_of a.vars.now) i [] ++
+    (codes " " ++ (value_text (slice_index_or a.found.now i None) ++
+    (codes " " ++ (track_text a.base n i (lasso_of a.lasso.now) a.fraction ++ codes "\n"))))) (sym h.variables)
 
 pub text_is : (a : Answer) → IsAnswer a → codes "solution\n" ++ lines_of a ≡ text_of_answer a
 unfolding solution_text

@@ -12,7 +12,7 @@ use Rattle.lash_model.specs.Standing.{all_int}
 use Rattle.lash_model.proofs.Scaling.{Solves-scale}
 use Rattle.set_answers.specs.Agreement.{IsVector}
 use Rattle.set_answers.proofs.VectorWords.{SpellsVector, vector_word}
-use Rattle.set_answers.proofs.Diagrams.{length-all_int}
+use Rattle.set_answers.proofs.SortKinds.{length-all_int}
 
 -- ---- each entry is the denominator times a number
 pub record WholeVector (n c : ℕ) (ns : List ℤ) : Type 0 where

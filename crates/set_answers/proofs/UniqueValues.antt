@@ -1,5 +1,5 @@
 -- A track of a lasso has one fraction in lowest terms.
-use Rattle.std.proofs.Common.{◌≡◌, ℕ, zero, suc, ◌+◌, ◌*◌, ◌^◌, ◌≤◌, ◌<◌, Option, Some, None, arith, refl, ◌∙◌, sym, ap, subst}
+use Rattle.std.proofs.Common.{◌≡◌, ℕ, suc, ◌*◌, ◌^◌, ◌≤◌, ◌<◌, Option, Some, None, arith, refl, ◌∙◌, sym, ap, subst}
 use Rattle.std.proofs.Math.IntN.{ℤ, pos, negsuc, ◌*ℤ◌}
 use Rattle.std.specs.Prelude.{◌≤ℤ◌, unsigned_abs}
 use Rattle.std.specs.Int.{IsGcd}
@@ -7,7 +7,7 @@ use Prim.Native.Nat.{◌∣◌}
 use Rattle.std.proofs.Math.Nat.{dvd-mul_left, dvd-mul_right, one-dvd}
 use Rattle.std.proofs.lemmas.Int.{ints, unsigned_abs-mul}
 use Rattle.std.proofs.lemmas.Nat.Gcd.{dvd_antisymm}
-use Rattle.integer_laws.proofs.Ring.{times_comm, times_assoc, eq_unscaled}
+use Rattle.integer_laws.proofs.Ring.{times_comm, eq_unscaled}
 use Rattle.lash_model.specs.Lassos.{Lasso, denominator, numerator}
 use Rattle.fraction_codes.specs.Reading.{IsValue}
 use Rattle.fraction_codes.specs.declared.ratio.Ratio.{Ratio}
@@ -33,7 +33,8 @@ crossed a b c d e = sym (unsigned_abs-mul a d) ∙ ap unsigned_abs e ∙ unsigne
 
 -- the one denominator divides the other
 divides : (v w : Ratio) → IsGcd (unsigned_abs v.num) (unsigned_abs v.den) 1 → v.num *ℤ w.den ≡ w.num *ℤ v.den → unsigned_abs v.den ∣ unsigned_abs w.den
-divides v w h e = coprime (unsigned_abs v.num) (unsigned_abs v.den) (unsigned_abs w.den) h (subst (λ x. unsigned_abs v.den ∣ x) (sym (crossed v.num v.den w.num w.den e)) (dvd-mul_left (unsigned_abs v.den) (unsigned_abs w.num)))
+divides v w h e = coprime (unsigned_abs v.num) (unsigned_abs v.den) (unsigned_abs w.den) h
+    (subst (λ x. unsigned_abs v.den ∣ x) (sym (crossed v.num v.den w.num w.den e)) (dvd-mul_left (unsigned_abs v.den) (unsigned_abs w.num)))
 
 same_sign : (a b : ℤ) → (pos 1) ≤ℤ a → (pos 1) ≤ℤ b → unsigned_abs a ≡ unsigned_abs b → a ≡ b
 same_sign (pos a) (pos b) h k e = ap pos e
@@ -47,7 +48,8 @@ made : (v w : Ratio) → v.num ≡ w.num → v.den ≡ w.den → v ≡ w
 unfolding ratio
 made v w p q = ap (λ z. ratio z v.den) p ∙ ap (λ z. ratio w.num z) q
 
-lowest_is_one : (v w : Ratio) → (pos 1) ≤ℤ v.den → (pos 1) ≤ℤ w.den → IsGcd (unsigned_abs v.num) (unsigned_abs v.den) 1 → IsGcd (unsigned_abs w.num) (unsigned_abs w.den) 1 → v.num *ℤ w.den ≡ w.num *ℤ v.den → v ≡ w
+lowest_is_one : (v w : Ratio) → (pos 1) ≤ℤ v.den → (pos 1) ≤ℤ w.den → IsGcd (unsigned_abs v.num) (unsigned_abs v.den) 1
+    → IsGcd (unsigned_abs w.num) (unsigned_abs w.den) 1 → v.num *ℤ w.den ≡ w.num *ℤ v.den → v ≡ w
 lowest_is_one v w h k g l e = made v w nums dens
   where
     dens : v.den ≡ w.den
@@ -59,11 +61,13 @@ lowest_is_one v w h k g l e = made v w nums dens
 -- both are the fraction of the same numerator and denominator
 one_value : (v w : Ratio) (n : ℤ) (c : ℕ) → v.num *ℤ pos (suc c) ≡ n *ℤ v.den → w.num *ℤ pos (suc c) ≡ n *ℤ w.den → v.num *ℤ w.den ≡ w.num *ℤ v.den
 one_value v w n c p q = eq_unscaled c (v.num *ℤ w.den) (w.num *ℤ v.den)
-    (times_comm (pos (suc c)) (v.num *ℤ w.den) ∙ exchanged v.num w.den (pos (suc c)) ∙ ap (λ z. z *ℤ w.den) p ∙ exchanged n v.den w.den ∙ ap (λ z. z *ℤ v.den) (sym q) ∙ exchanged w.num (pos (suc c)) v.den ∙ times_comm (w.num *ℤ v.den) (pos (suc c)))
+    (times_comm (pos (suc c)) (v.num *ℤ w.den) ∙ exchanged v.num w.den (pos (suc c)) ∙ ap (λ z. z *ℤ w.den) p ∙ exchanged n v.den w.den
+    ∙ ap (λ z. z *ℤ v.den) (sym q) ∙ exchanged w.num (pos (suc c)) v.den ∙ times_comm (w.num *ℤ v.den) (pos (suc c)))
 
 value_is_one : (r n i c : ℕ) (x : Lasso) (v w : Ratio) → denominator r x ≡ suc c → IsValue r n i x v → IsValue r n i x w → v ≡ w
 value_is_one r n i c x v w d a b = lowest_is_one v w a.positive b.positive a.lowest b.lowest
-    (one_value v w (numerator r n i x) c (subst (λ k. v.num *ℤ pos k ≡ numerator r n i x *ℤ v.den) d a.same) (subst (λ k. w.num *ℤ pos k ≡ numerator r n i x *ℤ w.den) d b.same))
+    (one_value v w (numerator r n i x) c (subst (λ k. v.num *ℤ pos k ≡ numerator r n i x *ℤ v.den) d a.same)
+    (subst (λ k. w.num *ℤ pos k ≡ numerator r n i x *ℤ w.den) d b.same))
 
 apart : (a b : ℕ) → a < b → b ≤ a → ⊥
 apart a b h k = omega (arith, h, k)

@@ -4,7 +4,7 @@ use Rattle.lash_model.specs.Formulas.{Sort, Formula}
 use Rattle.lash_model.specs.Meaning.{Solves}
 use Rattle.lash_model.specs.Tables.{Table}
 use Rattle.lash_model.specs.Standing.{StandsFor}
-use Rattle.canonical_laws.specs.Canonical.{IsCanonical}
+use Rattle.part_laws.specs.CanonicalMixed.{IsCanonicalTable}
 
 -- the numerators and the denominator are a vector over the sorts
 pub record IsVector (sorts : List Sort) (ns : List ℤ) (d : ℕ) : Type 0 where
@@ -25,7 +25,7 @@ IsEmptySet sorts f = (ns : List ℤ) (d : ℕ) → IsVector sorts ns d → Solve
 
 -- the canonical table of a base, with a track for each sort, that stands for the set over these sorts
 pub record IsCanonicalOf (base : ℕ) (sorts : List Sort) (f : Formula) (t : Table) : Type 0 where
-  pub canonical : IsCanonical t
+  pub canonical : IsCanonicalTable t
   pub base_is : t.base ≡ base
   pub tracks_are : t.tracks ≡ length sorts
   pub stands : StandsFor t sorts f

@@ -1,4 +1,3 @@
-pub mod Sorts
 pub mod Agreement
 pub mod Differences
 pub mod Vectors

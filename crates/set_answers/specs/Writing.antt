@@ -14,10 +14,10 @@ pub record IsAnswer (a : Answer) : Type 0 where
   pub lasso : IsLasso a.base a.tracks (lasso_of a.lasso.now)
 
 abbrev pub line_of : Answer → ℕ → List ℕ
-line_of a i = solution_line a.vars.now a.base (lasso_of a.lasso.now) a.found.now i
+line_of a i = solution_line a.vars.now a.base a.fraction (lasso_of a.lasso.now) a.found.now i
 
 abbrev pub lines_of : Answer → List ℕ
 lines_of a = texts_upto (line_of a) a.tracks
 
 abbrev pub text_of_answer : Answer → List ℕ
-text_of_answer a = solution_text a.vars.now a.base (lasso_of a.lasso.now) a.found.now
+text_of_answer a = solution_text a.vars.now a.base a.fraction (lasso_of a.lasso.now) a.found.now

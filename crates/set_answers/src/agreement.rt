@@ -5,15 +5,14 @@ ghost use Rattle.lash_model.specs.Formulas.{Sort, Formula};
 ghost use Rattle.lash_model.specs.Meaning.{Solves};
 ghost use Rattle.lash_model.specs.Standing.{StandsFor};
 ghost use Rattle.set_answers.specs.Agreement.{Agree};
-ghost use Rattle.set_answers.specs.Sorts.{AreIntegers};
 
 use weak_min::{Canon, same};
 
-/// Whether two canonical diagrams are equal. Where both are of one base and over as many tracks, they are so exactly where the same
-/// vectors solve the sets that they stand for. Costs one look at each entry, and takes no memory.
+/// Whether two canonical tables are equal. If both are of one base and stand for sets over one list of sorts, they are equal exactly if
+/// the same vectors solve the sets. Costs one look at each entry, and takes no memory.
 pub fn equal(left: &Canon, right: &Canon) -> bool
     ensures table { IsTrue result ↔ (left.now.table ≡ right.now.table) }
-    ensures agree { (sorts : List Sort) (f g : Formula) → AreIntegers sorts → left.now.table.base ≡ right.now.table.base → left.now.table.tracks ≡ length sorts → right.now.table.tracks ≡ length sorts → StandsFor left.now.table sorts f → StandsFor right.now.table sorts g → (IsTrue result ↔ Agree sorts f g) }
+    ensures agree { (sorts : List Sort) (f g : Formula) → left.now.table.base ≡ right.now.table.base → left.now.table.tracks ≡ length sorts → right.now.table.tracks ≡ length sorts → StandsFor left.now.table sorts f → StandsFor right.now.table sorts g → (IsTrue result ↔ Agree sorts f g) }
 {
     // Both are canonical.
     let _left = left.table();

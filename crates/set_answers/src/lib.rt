@@ -1,4 +1,4 @@
-//! Answers of canonical diagrams about their sets: a solution, members, equality, inclusion and truth.
+//! Answers of canonical tables about their sets: a solution, members, equality, inclusion and truth.
 #![tactic(auto)]
 
 mod agreement;

@@ -1,6 +1,6 @@
 //! The lines of a solution. Own.
 
-ghost use Rattle.std.specs.Prelude.{◌≡◌, ◌≤◌, ◌<◌, false, OnErr, pos};
+ghost use Rattle.std.specs.Prelude.{◌≡◌, ◌≤◌, ◌<◌, OnErr, pos};
 ghost use Rattle.std.specs.Ordering.{int_eq};
 ghost use Rattle.std.specs.Fmt.{signed_decimal};
 ghost use Rattle.lash_io.specs.Faults.{IsFaultCounted};
@@ -17,7 +17,7 @@ use fraction_codes::{Ratio, digits_text};
 use itoa::Buffer;
 use lash_io::{Block, Failed, Sink};
 
-/// A solution over so many tracks, each with its variable and its value.
+/// A solution over so many tracks, each with its variable and its value, and whether the digits after the point are written.
 #[derive(Drop)]
 pub(crate) struct Answer<'a> {
     pub base: Base,
@@ -25,6 +25,7 @@ pub(crate) struct Answer<'a> {
     pub vars: &'a Vars,
     pub lasso: &'a Lasso,
     pub found: &'a [Option<Ratio>],
+    pub fraction: bool,
 }
 
 /// Writes the text of a solution.
@@ -93,15 +94,22 @@ fn put_digits<K: Sink>(
 ) -> Result<(), Failed>
     requires answer { IsAnswer answer.now }
     requires track { at < answer.now.tracks }
-    ensures bytes { Passes (K.held sink.old) block.old (K.held sink.new) block.new result (track_text answer.now.base answer.now.tracks at (lasso_of answer.now.lasso.now) false) }
+    ensures bytes { Passes (K.held sink.old) block.old (K.held sink.new) block.new result (track_text answer.now.base answer.now.tracks at (lasso_of answer.now.lasso.now) answer.now.fraction) }
     ensures count { K.faults sink.old ≤ K.faults sink.new }
     ensures cause { OnErr result (IsFaultCounted (K.faults sink.old) (K.faults sink.new)) }
 {
     block.flush(sink)?;
-    digits_text(answer.base, answer.tracks, answer.lasso, at, false, sink)
+    digits_text(
+        answer.base,
+        answer.tracks,
+        answer.lasso,
+        at,
+        answer.fraction,
+        sink,
+    )
 }
 
-/// Puts a value; `-` where there is none.
+/// Puts a value; `-` if there is none.
 fn put_value<K: Sink>(block: &mut Block, sink: &mut K, found: &Option<Ratio>) -> Result<(), Failed>
     ensures bytes { Passes (K.held sink.old) block.old (K.held sink.new) block.new result (value_text found.now) }
     ensures count { K.faults sink.old ≤ K.faults sink.new }

@@ -1,10 +1,9 @@
-//! Writing a solution: the one that is fixed by the canonical diagram, with the value and the digits of each variable.
+//! Writing a solution: the one that is fixed by the canonical table, with the value and the digits of each variable.
 
 ghost use Rattle.std.specs.Prelude.{◌≡◌, ◌≤◌, ◌<◌, ◌^◌, List, length, IfOk};
 ghost use Rattle.lash_model.specs.Lassos.{IsLasso};
-ghost use Rattle.lash_model.specs.Tables.{IsDiagram};
 ghost use Rattle.digit_codes.specs.Reading.{lasso_of};
-ghost use Rattle.set_answers.specs.Solving.{AreFound, IsFixedSolution, Written};
+ghost use Rattle.set_answers.specs.Solving.{AreFound, IsFixed, Written};
 
 use crate::WriteError;
 use crate::lines::{Answer, write_lines};
@@ -16,19 +15,18 @@ use solution_pick::solution;
 use std::alloc::Global;
 use weak_min::Canon;
 
-/// Writes the fixed solution of a canonical diagram: `empty` where it accepts nothing, and else `solution` and a line for each
-/// variable, with its name, its value in lowest terms, or `-` where the base to the number of letters passes 2 ^ 100, and its digits.
-/// As conditions, the canonical table is a diagram, the header's base is the diagram's, and it has a variable for each track.
+/// Writes the fixed solution of a canonical table: `empty` if it accepts nothing, and else `solution` and a line for each variable, with its
+/// name, its value in lowest terms, or `-` if the base to the number of letters passes 2 ^ 100, and its digits, those after the point
+/// exactly if the table has fraction states. The header's base is the table's, and it has a variable for each track.
 ///
-/// `Fault` at a fault of the sink, which then holds a prefix of the text; `Memory` where memory is wanting, before anything is
-/// written.
+/// `Fault` comes at a fault of the sink, which then holds a prefix of the text; `Memory` if the program is out of memory, before anything
+/// is written.
 pub fn write_solution<K: Sink>(
     alloc: Global,
     canon: &Canon,
     header: &Header,
     sink: &mut K,
 ) -> Result<(), WriteError>
-    requires diagram { IsDiagram canon.now.table }
     requires base { header.now.base ≡ canon.now.table.base }
     requires variables { length header.now.vars ≡ canon.now.table.tracks }
     ensures solved { Written header.now.vars canon.now.table (K.held sink.old) (K.held sink.new) (K.faults sink.old) (K.faults sink.new) result }
@@ -58,7 +56,7 @@ fn write_found<K: Sink>(
     requires base { header.now.base ≡ canon.now.table.base }
     requires variables { length header.now.vars ≡ canon.now.table.tracks }
     requires range { IsLasso canon.now.table.base canon.now.table.tracks (lasso_of lasso.now) }
-    requires fixed { IsFixedSolution canon.now.table (lasso_of lasso.now) }
+    requires fixed { IsFixed canon.now.table (lasso_of lasso.now) }
     ensures solved { Written header.now.vars canon.now.table (K.held sink.old) (K.held sink.new) (K.faults sink.old) (K.faults sink.new) result }
     ensures count { K.faults sink.old ≤ K.faults sink.new }
 {
@@ -74,6 +72,7 @@ fn write_found<K: Sink>(
         vars: header.vars(),
         lasso,
         found: found.as_slice(),
+        fraction: canon.table().fracs() > 0,
     };
     match write_lines(&answer, sink) {
         Ok(()) => Ok(()),

@@ -1,16 +1,19 @@
-//! Answers about small sets of integers. The tables read r's complement, highest digit first, from the root 0 of the numbers that
-//! are not negative and the root 1 of the negative ones.
+//! Answers about small sets of integers, and in `real` about sets of reals. The tables read r's complement, highest digit first, from the
+//! root 0 of the numbers that are not negative and the root 1 of the negative ones.
 
-ghost use Rattle.std.specs.Prelude.{◌≡◌, ◌≤◌, length, All, IfOk};
+ghost use Rattle.std.specs.Prelude.{◌≡◌, ◌≤◌, length, All, IsTrue, IfOk};
 ghost use Rattle.lash_model.specs.Tables.{IsDiagram};
 ghost use Rattle.step_tables.specs.Kept.{wide};
 ghost use Rattle.fraction_codes.specs.Fractions.{IsSmall};
+ghost use Rattle.product_ops.specs.Products.{HaveSameKind};
+
+mod real;
 
 use super::*;
 use canon_text::Header;
 use digit_codes::Base;
 use formula_core::{Sort, Vars};
-use fraction_codes::Ratio;
+use fraction_codes::{Ratio, common_denominator};
 use lash_io::{MemSink, Memory};
 use packed_cells::Plain;
 use std::alloc::Global;
@@ -160,13 +163,13 @@ fn statement(rt: &impl Abort, alloc: Global, base: Base, answer: u32) -> Result<
     }
 }
 
-/// The header of one integer variable x.
-fn header_of(alloc: Global, base: Base) -> Result<Header, Memory>
+/// The header of one variable x.
+fn header_of(alloc: Global, base: Base, sort: Sort) -> Result<Header, Memory>
     ensures base { IfOk result (λ h. h.base ≡ base) }
     ensures one { IfOk result (λ h. length h.vars ≡ 1) }
 {
     let mut vars = Vars::new(alloc);
-    match vars.add(b"x", Sort::Int) {
+    match vars.add(b"x", sort) {
         Ok(()) => Ok(Header::new(base, vars)),
         Err(Memory) => Err(Memory),
     }
@@ -182,7 +185,6 @@ fn check_text(
     requires base { header.now.base ≡ canon.now.table.base }
     requires variables { length header.now.vars ≡ canon.now.table.tracks }
 {
-    assert!(rt; canon.table().fracs() == 0);
     let mut sink = MemSink::new(alloc, 40, Vec::new(alloc))?;
     assert!(rt; write_solution(alloc, canon, header, &mut sink).is_ok());
     assert_eq!(rt; sink.bytes(), text);
@@ -194,7 +196,6 @@ fn check_fault(rt: &impl Abort, alloc: Global, canon: &Canon, header: &Header) -
     requires base { header.now.base ≡ canon.now.table.base }
     requires variables { length header.now.vars ≡ canon.now.table.tracks }
 {
-    assert!(rt; canon.table().fracs() == 0);
     let fails = Vec::from_slice(alloc, &[(2, 1)])?;
     let mut sink = MemSink::new(alloc, 40, fails)?;
     let answer = write_solution(alloc, canon, header, &mut sink);
@@ -213,7 +214,7 @@ fn check_told(
     requires { base ≡ 2 }
 {
     let canon = canon_told(rt, alloc, base, outs)?;
-    let header = header_of(alloc, base)?;
+    let header = header_of(alloc, base, Sort::Int)?;
     check_text(rt, alloc, &canon, &header, text)
 }
 
@@ -221,7 +222,7 @@ fn check_above(rt: &impl Abort, alloc: Global, base: Base) -> Result<(), Fail>
     requires { base ≡ 2 }
 {
     let canon = canon_told(rt, alloc, base, [0, 0, 0, 0, 1, 1])?;
-    let header = header_of(alloc, base)?;
+    let header = header_of(alloc, base, Sort::Int)?;
     check_fault(rt, alloc, &canon, &header)
 }
 
@@ -229,11 +230,11 @@ fn check_hundred(rt: &impl Abort, alloc: Global, base: Base) -> Result<(), Fail>
     requires { base ≡ 10 }
 {
     let canon = canon_hundred(rt, alloc, base)?;
-    let header = header_of(alloc, base)?;
+    let header = header_of(alloc, base, Sort::Int)?;
     check_text(rt, alloc, &canon, &header, b"solution\nx 100 0:100\n")
 }
 
-// Above 2 the least is 3; below 0 it is -1, which needs no digit behind its sign.
+// Above 2 the least is 3; below 0 it is -1, which needs no digit after its sign.
 #[test]
 fn solutions_in_base_two(rt: HostRuntime) -> Result<(), Fail> {
     let alloc = rt.alloc();
@@ -253,6 +254,10 @@ fn has(rt: &impl Abort, alloc: Global, canon: &Canon, values: &[Ratio], answer: 
     requires count { length values.now ≡ canon.now.table.tracks }
     requires small { All IsSmall values.now }
 {
+    if common_denominator(values).is_none() {
+        assert!(rt; false, "the denominators are small");
+        return;
+    }
     match contains(alloc, canon, values) {
         Ok(found) => assert!(rt; found == answer),
         Err(Memory) => assert!(rt; false, "there is memory"),
@@ -296,24 +301,33 @@ fn members(rt: HostRuntime) -> Result<(), Fail> {
     check_members(&rt, rt.alloc(), Base::new(2).ok_or("2 is a base")?)
 }
 
-fn is_inside(rt: &impl Abort, alloc: Global, left: &Canon, right: &Canon, answer: bool)
+/// Whether both tables are diagrams, or both have fraction states.
+fn have_same_kind(left: &Canon, right: &Canon) -> bool
+    ensures { IsTrue result → HaveSameKind left.now.table right.now.table }
+{
+    (left.table().fracs() == 0) == (right.table().fracs() == 0)
+}
+
+fn is_inside(rt: &impl Abort, alloc: Global, left: &Canon, right: &Canon, limit: u64, answer: bool)
     requires base { left.now.table.base ≡ right.now.table.base }
     requires tracks { left.now.table.tracks ≡ right.now.table.tracks }
+    requires limit { limit ≤ 1000 }
 {
-    assert!(rt; left.table().fracs() == 0 && right.table().fracs() == 0);
-    match subset(alloc, left, right, 1000) {
+    assert!(rt; have_same_kind(left, right));
+    match subset(alloc, left, right, limit) {
         Ok(found) => assert!(rt; found == answer),
         Err(_) => assert!(rt; false, "it is light"),
     }
 }
 
-fn is_heavy(rt: &impl Abort, alloc: Global, left: &Canon, right: &Canon)
+fn is_heavy(rt: &impl Abort, alloc: Global, left: &Canon, right: &Canon, limit: u64)
     requires base { left.now.table.base ≡ right.now.table.base }
     requires tracks { left.now.table.tracks ≡ right.now.table.tracks }
+    requires limit { limit ≤ 1000 }
 {
-    assert!(rt; left.table().fracs() == 0 && right.table().fracs() == 0);
-    match subset(alloc, left, right, 4) {
-        Ok(_) => assert!(rt; false, "a pair has five cells"),
+    assert!(rt; have_same_kind(left, right));
+    match subset(alloc, left, right, limit) {
+        Ok(_) => assert!(rt; false, "it has more cells"),
         Err(error) => assert!(rt; error == BuildError::Heavy),
     }
 }
@@ -325,9 +339,10 @@ fn check_relations(rt: &impl Abort, alloc: Global, base: Base) -> Result<(), Fai
     let natural = canon_told(rt, alloc, base, [1, 0, 1, 1, 1, 1])?;
     assert!(rt; equal(&above, &above));
     assert!(rt; !equal(&above, &natural));
-    is_inside(rt, alloc, &above, &natural, true);
-    is_inside(rt, alloc, &natural, &above, false);
-    is_heavy(rt, alloc, &above, &natural);
+    is_inside(rt, alloc, &above, &natural, 1000, true);
+    is_inside(rt, alloc, &natural, &above, 1000, false);
+    // A pair has five cells.
+    is_heavy(rt, alloc, &above, &natural, 4);
     Ok(())
 }
 

@@ -1,22 +1,29 @@
--- A vector of whole fractions is read; any other solves no set of integers.
-use Rattle.std.proofs.Common.{refl, sym, ap, ◌∙◌}
-use Rattle.lash_model.specs.Tables.{IsDiagram}
+-- The code of a vector that the table may have is read; any other is in no set.
+use Rattle.std.proofs.lemmas.Result.{IfOk-weaker}
 use Rattle.part_laws.proofs.BothKinds.{canonical_table}
-use Rattle.step_tables.specs.Kept.{Kept}
-use Rattle.digit_codes.specs.Reading.{lasso_of}
-use Rattle.set_answers.proofs.Members.{member_is, parted}
-use Rattle.set_answers.proofs.Diagrams.{diagram_of}
-use Rattle.set_answers.proofs.WholeFractions.{solved_is_whole, not_too_fine}
+use Rattle.set_answers.specs.Vectors.{IsAnswerToCode}
+use Rattle.set_answers.proofs.Members.{whole_if_admitted, coarse_if_admitted, member_is, no_member}
 use Rattle.set_answers.proofs.membership.contains.Goals as goal
 
-pub returns-then-not-are_whole : goal.returns-then-not-are_whole
-returns-then-not-are_whole c = λ sorts f integers e s ns d h. (λ y. parted y, λ z. c.if-not-are_whole.ensures.1 (solved_is_whole sorts f c.args.values.now ns d integers e c.requires.small h z))
+pub returns-then-not-may_have : goal.returns-then-not-may_have
+returns-then-not-may_have c = λ sorts f.
+    no_member c.args.canon.now.table sorts f c.args.values.now c.may_have.result
+    (record { of_diagram = c.may_have.ensures.diagram; of_fractions = c.may_have.ensures.fractions })
+    c.if-not-may_have.true c.requires.small
 
-pub unreachable-requires : goal.unreachable-requires
-unreachable-requires c = not_too_fine c.args.values.now (c.if-not-are_whole.ensures.0 refl) (c.in-Err-Denominator.ensures.denominator c.in-Err-Denominator.field-0-is)
+pub accepts_code-requires-clause-coarse : goal.accepts_code-requires-clause-coarse
+accepts_code-requires-clause-coarse c =
+    coarse_if_admitted c.args.canon.now.table c.args.values.now c.may_have.result
+    (record { of_diagram = c.may_have.ensures.diagram; of_fractions = c.may_have.ensures.fractions })
+    c.if-not-may_have.false c.requires.coarse
 
-pub returns-in-Ok : goal.returns-in-Ok
-returns-in-Ok c = λ sorts f integers e s.
-    let diagram : IsDiagram c.args.canon.now.table = diagram_of c.args.canon.now.table sorts f integers c.table.ensures.canonical (sym c.requires.count ∙ e) s in
-    member_is c.args.canon.now.table c.base.result sorts f c.args.values.now (lasso_of c.in-Ok.lasso) c.member.result integers (canonical_table c.args.canon.now.table c.table.ensures.canonical) c.requires.count
-    (c.base.ensures ∙ ap (λ (k : Kept). k.table.base) c.table.ensures.value) c.requires.small (c.if-not-are_whole.ensures.0 refl) c.in-Ok.ensures.code (c.member.ensures.diagram diagram) e s
+pub returns : goal.returns
+returns c =
+    IfOk-weaker c.accepts_code.result (IsAnswerToCode c.args.canon.now.table c.args.values.now) _
+    (λ answer said sorts f. member_is c.args.canon.now.table sorts f c.args.values.now answer
+    (canonical_table c.args.canon.now.table c.table-table.ensures.canonical)
+    c.requires.count c.requires.small
+    (whole_if_admitted c.args.canon.now.table c.args.values.now c.may_have.result
+    (record { of_diagram = c.may_have.ensures.diagram; of_fractions = c.may_have.ensures.fractions })
+    c.if-not-may_have.false) said)
+    c.accepts_code.ensures

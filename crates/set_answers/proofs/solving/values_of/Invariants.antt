@@ -1,7 +1,4 @@
 -- The values of the first tracks were found.
-use Rattle.std.proofs.Common.{◌≡◌, ℕ, ◌<◌, length}
-use Rattle.std.specs.Prelude.{None}
-use Rattle.std.specs.List.{slice_index_or}
 use Rattle.digit_codes.specs.Reading.{lasso_of}
 use Rattle.set_answers.proofs.Finding.{IsFinding}
 use Rattle.set_answers.proofs.solving.values_of.Given as goal
