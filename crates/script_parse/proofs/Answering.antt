@@ -1,5 +1,5 @@
 -- From the statement that tokens spell to the answer.
-use Rattle.std.proofs.Common.{◌≡◌, ℕ, ◌≤◌, List, length, map, false, inr, arith, ap, subst}
+use Rattle.std.proofs.Common.{◌≡◌, ℕ, ◌≤◌, List, length, map, inr, arith, ap, subst}
 use Rattle.std.specs.Prelude.{Result, Ok, Err}
 use Rattle.std.proofs.lemmas.List.{length-map}
 use Rattle.script_tokens.specs.Naming.{AreNamed}
@@ -12,15 +12,14 @@ use Rattle.script_statements.specs.declared.tree.Statement.{Statement as Declare
 use Rattle.script_names.specs.Kept.{KeptSet}
 use Rattle.statement_meaning.specs.Judging.{IsStatementReadable}
 use Rattle.statement_meaning.specs.declared.statement.Statement.{Statement as DeclaredStatement}
-use Rattle.script_parse.specs.Unbuilt.{has_unbuilt}
 use Rattle.script_parse.specs.Answers.{Spells, AnswersStatement, AnswersTokens}
 use Rattle.script_parse.specs.declared.errors.ScriptError.{ScriptError}
-use Rattle.script_parse.specs.declared.errors.ScriptError.TheVariants.{Read, Limit, Unbuilt, Syntax, Name, Memory}
+use Rattle.script_parse.specs.declared.errors.ScriptError.TheVariants.{Read, Limit, Syntax, Name, Memory}
 use Rattle.script_parse.proofs.Readable.{readable}
 
 -- the statement that was read
-pub spelled : (ts : List PlacedToken) (s : DeclaredTree) → has_unbuilt ts ≡ false → StatementSpells ts s → Spells ts (statement_of s)
-spelled ts s built (a, read, shape) = record { built = built; tree = a; read = read; is = shape }
+pub spelled : (ts : List PlacedToken) (s : DeclaredTree) → StatementSpells ts s → Spells ts (statement_of s)
+spelled ts s (a, read, shape) = record { tree = a; read = read; is = shape }
 
 -- it can be judged
 pub readable_tree : (tokens : List Placed) (s : DeclaredTree) → Spells (map placed_of tokens) (statement_of s) → length tokens ≤ 65536 → AreNamed (map placed_of tokens) → IsStatementReadable (statement_of s)
@@ -31,7 +30,6 @@ pub answered : (base : ℕ) (kept : List KeptSet) (end : ℕ) (ts : List PlacedT
 answered base kept end ts shape (Ok s) h is = record { shape = shape; spells = h; is = is }
 answered base kept end ts shape (Err Read) h is = absurd is
 answered base kept end ts shape (Err (Limit which)) h is = inr (record { shape = shape; spells = h; is = is })
-answered base kept end ts shape (Err Unbuilt) h is = absurd is
 answered base kept end ts shape (Err (Syntax place)) h is = absurd is
 answered base kept end ts shape (Err (Name fault place)) h is = record { shape = shape; spells = h; is = is }
 answered base kept end ts shape (Err Memory) h is = tt

@@ -1,7 +1,6 @@
 -- Tokens have no two answers but for want of memory.
-use Rattle.std.proofs.Common.{◌≡◌, ℕ, List, inl, inr, true, false, refl, sym, ap, ◌∙◌, subst, None}
+use Rattle.std.proofs.Common.{◌≡◌, ℕ, List, inl, inr, refl, sym, ap, ◌∙◌, subst, None}
 use Rattle.std.specs.Prelude.{◌⊎◌}
-use Rattle.std.proofs.lemmas.Bool.{true≢false}
 use Rattle.script_tokens.specs.Tokens.{PlacedToken}
 use Rattle.script_statements.specs.Statements.{StatementShape, statement_shape}
 use Rattle.script_statements.specs.Outcomes.{Outcome, Whole, Wrong, Deep, IsOutcome}
@@ -13,10 +12,9 @@ use Rattle.script_meaning.specs.declared.resolving.Refusal.TheVariants.{Fault, L
 use Rattle.statement_meaning.specs.Judging.{IsJudged, IsLimited, IsStatementRefused, IsStatementWithin, statement_fault}
 use Rattle.statement_meaning.specs.declared.statement.Statement.{Statement as DeclaredStatement}
 use Rattle.statement_meaning.proofs.Excluding.{refusals_are_one as one_refusal, fit_or_refused as fit_or_not, judged_or_refused}
-use Rattle.script_parse.specs.Unbuilt.{has_unbuilt}
 use Rattle.script_parse.specs.Answers.{Spells, OfStatement, IsStatementCause, AreRefused, place_at}
 use Rattle.script_parse.specs.declared.errors.ScriptError.{ScriptError}
-use Rattle.script_parse.specs.declared.errors.ScriptError.TheVariants.{Read, Limit, Unbuilt, Syntax, Name, Memory}
+use Rattle.script_parse.specs.declared.errors.ScriptError.TheVariants.{Read, Limit, Syntax, Name, Memory}
 
 -- two refusals are one, or one of them is want of memory
 abbrev pub AreOne : ScriptError → ScriptError → Type 0
@@ -34,7 +32,6 @@ StatementCause base kept shape e = (r : Refusal) × IsStatementRefused base kept
 statement_cause : (base : ℕ) (kept : List KeptSet) (shape : StatementShape) (e : ScriptError) → IsStatementCause base kept shape e → StatementCause base kept shape e
 statement_cause base kept shape Read h = absurd h
 statement_cause base kept shape (Limit which) h = (Passed which, h, refl)
-statement_cause base kept shape Unbuilt h = absurd h
 statement_cause base kept shape (Syntax place) h = absurd h
 statement_cause base kept shape (Name fault place) h = (Fault (record { fault = fault; place = place }), h, refl)
 statement_cause base kept shape Memory h = (Wanting, tt, refl)
@@ -54,15 +51,14 @@ Claims base kept end ts (Wrong k) e = e ≡ Syntax (place_at end ts k)
 Claims base kept end ts (Deep k) e = e ≡ Limit Nesting
 
 abbrev Cause : ℕ → List KeptSet → ℕ → List PlacedToken → ScriptError → Type 0
-Cause base kept end ts e = (e ≡ Memory) ⊎ ((has_unbuilt ts ≡ true) × (e ≡ Unbuilt)) ⊎ ((has_unbuilt ts ≡ false) × (x : Outcome) × IsOutcome ts x × Claims base kept end ts x e)
+Cause base kept end ts e = (e ≡ Memory) ⊎ ((x : Outcome) × IsOutcome ts x × Claims base kept end ts x e)
 
 cause : (base : ℕ) (kept : List KeptSet) (end : ℕ) (ts : List PlacedToken) (e : ScriptError) → AreRefused base kept end ts e → Cause base kept end ts e
 cause base kept end ts Read h = absurd h
-cause base kept end ts (Limit which) (inl (p, d)) = inr (inr (d.built, Deep d.at, d.deep, ap Limit p))
-cause base kept end ts (Limit which) (inr o) = inr (inr (o.spells.built, Whole o.spells.tree, o.spells.read, subst (λ u. IsLimited base kept u which) (sym o.spells.is) o.is))
-cause base kept end ts Unbuilt h = inr (inl (h, refl))
-cause base kept end ts (Syntax place) h = inr (inr (h.built, Wrong h.at, h.wrong, ap Syntax h.is))
-cause base kept end ts (Name fault place) o = inr (inr (o.spells.built, Whole o.spells.tree, o.spells.read, ap (statement_fault kept) o.spells.is ∙ o.is))
+cause base kept end ts (Limit which) (inl (p, d)) = inr (Deep d.at, d.deep, ap Limit p)
+cause base kept end ts (Limit which) (inr o) = inr (Whole o.spells.tree, o.spells.read, subst (λ u. IsLimited base kept u which) (sym o.spells.is) o.is)
+cause base kept end ts (Syntax place) h = inr (Wrong h.at, h.wrong, ap Syntax h.is)
+cause base kept end ts (Name fault place) o = inr (Whole o.spells.tree, o.spells.read, ap (statement_fault kept) o.spells.is ∙ o.is)
 cause base kept end ts Memory h = inl refl
 
 -- tokens are one thing
@@ -83,10 +79,7 @@ refusals_are_one base kept end ts e f h i = by (cause base kept end ts e h) (cau
     by : Cause base kept end ts e → Cause base kept end ts f → AreOne e f
     by (inl p) j = inr (inl p)
     by (inr g) (inl q) = inr (inr q)
-    by (inr (inl (b, p))) (inr (inl (c, q))) = inl (p ∙ sym q)
-    by (inr (inl (b, p))) (inr (inr (c, y, k, q))) = absurd (true≢false (sym b ∙ c))
-    by (inr (inr (b, x, k, p))) (inr (inl (c, q))) = absurd (true≢false (sym c ∙ b))
-    by (inr (inr (b, x, k, p))) (inr (inr (c, y, l, q))) = claims_one base kept end ts x e f p (subst (λ z. Claims base kept end ts z f) (same ts y x l k) q)
+    by (inr (x, k, p)) (inr (y, l, q)) = claims_one base kept end ts x e f p (subst (λ z. Claims base kept end ts z f) (same ts y x l k) q)
 
 -- a statement that is judged is refused for want of memory alone
 judged_is_not_refused : (base : ℕ) (kept : List KeptSet) (shape : StatementShape) (s : DeclaredStatement) (e : ScriptError) → IsJudged base kept shape s → StatementCause base kept shape e → e ≡ Memory
@@ -100,8 +93,7 @@ asked_or_refused base kept end ts s e o h = by (cause base kept end ts e h)
 
     by : Cause base kept end ts e → e ≡ Memory
     by (inl p) = p
-    by (inr (inl (b, p))) = absurd (true≢false (sym b ∙ o.spells.built))
-    by (inr (inr (b, x, k, p))) = of_whole (subst (λ z. Claims base kept end ts z e) (same ts x (Whole o.spells.tree) k o.spells.read) p)
+    by (inr (x, k, p)) = of_whole (subst (λ z. Claims base kept end ts z e) (same ts x (Whole o.spells.tree) k o.spells.read) p)
 
 -- the same of a statement whose names are right and that passes no limit
 pub fit_or_refused : (base : ℕ) (kept : List KeptSet) (end : ℕ) (ts : List PlacedToken) (e : ScriptError) → OfStatement ts (λ shape. (statement_fault kept shape ≡ None) × IsStatementWithin base kept shape) → AreRefused base kept end ts e → e ≡ Memory
@@ -115,8 +107,7 @@ fit_or_refused base kept end ts e o h = by (cause base kept end ts e h)
 
     by : Cause base kept end ts e → e ≡ Memory
     by (inl p) = p
-    by (inr (inl (b, p))) = absurd (true≢false (sym b ∙ o.spells.built))
-    by (inr (inr (b, x, k, p))) = of_whole (subst (λ z. Claims base kept end ts z e) (same ts x (Whole o.spells.tree) k o.spells.read) p)
+    by (inr (x, k, p)) = of_whole (subst (λ z. Claims base kept end ts z e) (same ts x (Whole o.spells.tree) k o.spells.read) p)
 
 -- tokens spell one statement
 abbrev tree_shape : StatementShape → Outcome → StatementShape

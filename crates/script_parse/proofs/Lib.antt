@@ -9,4 +9,3 @@ pub mod Answering
 pub mod Stepping
 pub mod Excluding
 pub mod InOrder
-pub mod PlainStatements

@@ -21,18 +21,17 @@ use Rattle.statement_meaning.specs.Judging.{IsJudged}
 use Rattle.statement_meaning.specs.declared.statement.Statement.{Statement as DeclaredStatement}
 use Rattle.script_parse.specs.Answers.{Spells, OfStatement, AreRefused, State, IsNext, IsPiece, IsCause, IsStopped, Says, GivesStatement, EndsRest, error_of}
 use Rattle.script_parse.specs.declared.errors.ScriptError.{ScriptError}
-use Rattle.script_parse.specs.declared.errors.ScriptError.TheVariants.{Read, Limit, Unbuilt, Syntax, Name, Memory}
+use Rattle.script_parse.specs.declared.errors.ScriptError.TheVariants.{Read, Limit, Syntax, Name, Memory}
 use Rattle.script_parse.proofs.Ending.{ends, rest_has_none, statement_has_one, whole_has_token}
 
 -- a rest spells no statement
 pub rest_spells_none : (place : ℕ) (bs : List ℕ) (ts : List PlacedToken) (shape : StatementShape) → statement_length false bs ≡ None → ts ≡ tokens_of place bs → Spells ts shape → ⊥
 rest_spells_none place bs ts shape unended is h = true≢false (sym (statement_has_one h.tree) ∙ ap ends (sym h.read.spelled) ∙ ap ends is ∙ rest_has_none place bs unended)
 
--- every error but want of memory
+-- every error but that of memory
 abbrev is_told : ScriptError → Bool
 is_told Read = true
 is_told (Limit which) = true
-is_told Unbuilt = true
 is_told (Syntax place) = true
 is_told (Name fault place) = true
 is_told Memory = false
@@ -75,7 +74,6 @@ rest_piece p left h = record { held = all p.held h.unended.unended; ahead = by l
 refused_first : (base : ℕ) (kept : List KeptSet) (p : Progress) (left : Option (List ℕ)) (before after : ℕ) (piece : List ℕ) (e : ScriptError) → IsPiece p left piece → IsFit p piece e → AreRefused base kept (p.given + length piece) (tokens_of p.given piece) e → IsCause base kept p left before after e
 refused_first base kept p left before after piece Read f fit r = absurd r
 refused_first base kept p left before after piece (Limit which) f fit r = inr (inr (record { piece = piece; first = f; within = fit.within; some = λ none. no_memory (Limit which) refl (fit.some none); refused = r }))
-refused_first base kept p left before after piece Unbuilt f fit r = record { piece = piece; first = f; within = fit.within; some = λ none. no_memory Unbuilt refl (fit.some none); refused = r }
 refused_first base kept p left before after piece (Syntax place) f fit r = record { piece = piece; first = f; within = fit.within; some = λ none. no_memory (Syntax place) refl (fit.some none); refused = r }
 refused_first base kept p left before after piece (Name fault place) f fit r = record { piece = piece; first = f; within = fit.within; some = λ none. no_memory (Name fault place) refl (fit.some none); refused = r }
 refused_first base kept p left before after piece Memory f fit r = tt

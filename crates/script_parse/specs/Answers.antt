@@ -17,9 +17,8 @@ use Rattle.statement_meaning.specs.Judging.{IsJudged, IsLimited, statement_fault
 use Rattle.statement_meaning.specs.declared.statement.Statement.{Statement as DeclaredStatement}
 use Rattle.script_meaning.specs.declared.limits.Which.{Which}
 use Rattle.script_meaning.specs.declared.limits.Which.TheVariants.{StatementBytes, ScriptBytes, Nesting}
-use Rattle.script_parse.specs.Unbuilt.{has_unbuilt}
 use Rattle.script_parse.specs.declared.errors.ScriptError.{ScriptError}
-use Rattle.script_parse.specs.declared.errors.ScriptError.TheVariants.{Read, Limit, Unbuilt, Syntax, Name, Memory}
+use Rattle.script_parse.specs.declared.errors.ScriptError.TheVariants.{Read, Limit, Syntax, Name, Memory}
 
 -- the place of a token, or of the end behind the last
 abbrev pub place_at : ℕ → List PlacedToken → ℕ → ℕ
@@ -27,9 +26,8 @@ place_at end [] k = end
 place_at end (t ∷ ts) zero = t.place
 place_at end (t ∷ ts) (suc k) = place_at end ts k
 
--- nothing of the tokens is unbuilt, and they spell the statement
+-- the tokens spell the statement
 pub record Spells (ts : List PlacedToken) (shape : StatementShape) : Type 0 where
-  pub built : has_unbuilt ts ≡ false
   pub tree : Statement
   pub read : IsRead whole_statement ts tree
   pub is : statement_shape tree ≡ shape
@@ -44,7 +42,6 @@ pub record OfStatement (ts : List PlacedToken) (P : StatementShape → Type 0) :
 abbrev pub IsStatementCause : ℕ → List KeptSet → StatementShape → ScriptError → Type 0
 IsStatementCause base kept shape Read = ⊥
 IsStatementCause base kept shape (Limit which) = IsLimited base kept shape which
-IsStatementCause base kept shape Unbuilt = ⊥
 IsStatementCause base kept shape (Syntax place) = ⊥
 IsStatementCause base kept shape (Name fault place) = statement_fault kept shape ≡ Some (record { fault = fault; place = place })
 IsStatementCause base kept shape Memory = Unit
@@ -56,14 +53,12 @@ AnswersStatement base kept shape (Err e) = IsStatementCause base kept shape e
 
 -- a token, or the end, is the first with which no statement goes on
 pub record IsWrong (end : ℕ) (ts : List PlacedToken) (place : ℕ) : Type 0 where
-  pub built : has_unbuilt ts ≡ false
   pub at : ℕ
   pub wrong : IsSyntaxAt whole_statement ts at
   pub is : place ≡ place_at end ts at
 
 -- a token opens the first group that is one too many
 pub record IsDeep (ts : List PlacedToken) : Type 0 where
-  pub built : has_unbuilt ts ≡ false
   pub at : ℕ
   pub deep : IsNestingAt whole_statement ts at
 
@@ -75,7 +70,6 @@ IsPassed base kept ts which = ((which ≡ Nesting) × IsDeep ts) ⊎ OfStatement
 abbrev pub AreRefused : ℕ → List KeptSet → ℕ → List PlacedToken → ScriptError → Type 0
 AreRefused base kept end ts Read = ⊥
 AreRefused base kept end ts (Limit which) = IsPassed base kept ts which
-AreRefused base kept end ts Unbuilt = has_unbuilt ts ≡ true
 AreRefused base kept end ts (Syntax place) = IsWrong end ts place
 AreRefused base kept end ts (Name fault place) = OfStatement ts (λ shape. statement_fault kept shape ≡ Some (record { fault = fault; place = place }))
 AreRefused base kept end ts Memory = Unit
@@ -131,7 +125,6 @@ pub record IsFirstRefused (base : ℕ) (kept : List KeptSet) (p : Progress) (lef
 abbrev pub IsCause : ℕ → List KeptSet → Progress → Option (List ℕ) → ℕ → ℕ → ScriptError → Type 0
 IsCause base kept p left faults_before faults_after Read = IsReadFault p faults_before faults_after
 IsCause base kept p left faults_before faults_after (Limit which) = ((which ≡ StatementBytes) × IsTooLong LongStatement p left) ⊎ ((which ≡ ScriptBytes) × IsTooLong LongScript p left) ⊎ IsFirstRefused base kept p left (Limit which)
-IsCause base kept p left faults_before faults_after Unbuilt = IsFirstRefused base kept p left Unbuilt
 IsCause base kept p left faults_before faults_after (Syntax place) = IsFirstRefused base kept p left (Syntax place)
 IsCause base kept p left faults_before faults_after (Name fault place) = IsFirstRefused base kept p left (Name fault place)
 IsCause base kept p left faults_before faults_after Memory = Unit

@@ -1,5 +1,3 @@
-pub mod Unbuilt
-pub mod Plain
 pub mod Answers
 pub use Rattle.script_meaning.specs.Resolving
 pub use Rattle.script_pieces.specs.Taking

@@ -13,9 +13,6 @@ pub enum ScriptError {
     /// A limit is passed, the first in the order of `Which`.
     #[error("a limit is passed")]
     Limit { which: Which },
-    /// A token is of what is not built yet.
-    #[error("the statement is not built yet")]
-    Unbuilt,
     /// A statement begins with the tokens before the place, and none with the token there too.
     #[error("the syntax is wrong")]
     Syntax { place: u64 },

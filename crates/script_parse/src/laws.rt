@@ -7,7 +7,6 @@ ghost use Rattle.script_tokens.specs.Tokens.{PlacedToken};
 ghost use Rattle.script_names.specs.Kept.{KeptSet};
 ghost use Rattle.statement_meaning.specs.Judging.{IsJudged, IsStatementWithin, statement_fault};
 ghost use Rattle.script_parse.specs.Answers.{OfStatement, Spells, AreRefused, IsNext};
-ghost use Rattle.script_parse.specs.Plain.{IsPlainStatement};
 ghost use Rattle.script_statements.specs.Statements.{StatementShape};
 ghost use Rattle.script_parse.specs.declared.errors.ScriptError.TheVariants.{Memory};
 
@@ -27,10 +26,4 @@ pub fn answers_exclude_each_other()
 /// calls gives the statements of the script in order, in whatever pieces the source gives its bytes.
 pub fn statements_come_in_order()
     ensures { (base : ℕ) (kept : List KeptSet) (before after : Progress) (left_before left_after : List ℕ) (s : Statement) (h : IsNext base kept before after (Some left_before) (Some left_after) s) → cut (before.held ++ left_before) ≡ record { statements = h.text ∷ (cut (after.held ++ left_after)).statements; rest = (cut (after.held ++ left_after)).rest } }
-{}
-
-/// A statement that is given is one of integers, in its declared variables and the bound ones of its formulas: whatever has others is answered as
-/// not built.
-pub fn built_statements_are_plain()
-    ensures { (ts : List PlacedToken) (shape : StatementShape) → Spells ts shape → IsPlainStatement shape }
 {}

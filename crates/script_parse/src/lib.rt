@@ -5,10 +5,9 @@ mod errors;
 mod laws;
 mod piece;
 mod reader;
-mod unbuilt;
 
 pub use errors::ScriptError;
-pub use laws::{answers_exclude_each_other, built_statements_are_plain, statements_come_in_order};
+pub use laws::{answers_exclude_each_other, statements_come_in_order};
 pub use reader::Statements;
 
 #[cfg(test)]

@@ -1,4 +1,4 @@
-//! From the bytes of a piece to its statement: tokens, what is not built, the tree, and what the statement asks.
+//! From the bytes of a piece to its statement: tokens, the tree, and what the statement asks.
 
 ghost use Rattle.std.specs.Prelude.{◌≡◌, ◌≤◌, ◌+◌, ◌^◌, None, false, length, map};
 ghost use Rattle.script_tokens.specs.Lexing.{tokens_of};
@@ -11,7 +11,6 @@ ghost use Rattle.statement_meaning.specs.Judging.{IsStatementReadable};
 ghost use Rattle.script_parse.specs.Answers.{AnswersRest, AnswersTokens, AnswersStatement, place_at};
 
 use crate::errors::ScriptError;
-use crate::unbuilt::holds_unbuilt;
 use digit_codes::Base;
 use script_meaning::{Refusal as StatementRefusal, Which};
 use script_names::{Defs, FaultAt};
@@ -78,9 +77,6 @@ fn read_tokens(
     requires named { AreNamed (map placed_of tokens.now) }
     ensures { AnswersTokens base (sets_of defs.now) end (map placed_of tokens.now) result }
 {
-    if holds_unbuilt(tokens) {
-        return Err(ScriptError::Unbuilt);
-    }
     match read_statement(alloc, tokens) {
         Ok(tree) => judged(alloc, base, defs, &tree),
         Err(Refusal::Syntax { at }) => Err(ScriptError::Syntax {

@@ -59,9 +59,9 @@ impl Statements {
     /// The next statement of the script, where these sets are kept, or None at its end. The reader is live, as a condition.
     ///
     /// # Errors
-    /// `Read` where a read met a fault; else, of the first piece of the bytes ahead, `Limit` where it has too many bytes, `Unbuilt` where it
-    /// has a token of what is not built (the keyword `real`), `Syntax` and `Limit` of the nesting at the first wrong token or group
-    /// too many, `Name` at the first wrong name, and `Limit` for the first limit that its statement passes. `Memory` may come besides.
+    /// `Read` if a read met a fault; else, of the first piece of the bytes ahead, `Limit` if it has too many bytes, `Syntax` and `Limit` of
+    /// the nesting at the first wrong token or group too many, `Name` at the first wrong name, and `Limit` for the first limit that its
+    /// statement passes. `Memory` may come besides.
     pub fn next<S: Source>(
         &mut self,
         alloc: Global,

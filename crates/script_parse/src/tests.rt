@@ -140,10 +140,10 @@ fn is_atom(formula: &Formula, terms: &[(u32, i128)]) -> bool {
     }
 }
 
-/// Whether a formula says so of some integer at the last place.
-fn is_some(formula: &Formula, terms: &[(u32, i128)]) -> bool {
+/// Whether a formula says so of some number of a sort at the last place.
+fn is_some(formula: &Formula, sort: Sort, terms: &[(u32, i128)]) -> bool {
     match formula {
-        Formula::Exists(Sort::Int, inner) => is_atom(inner, terms),
+        Formula::Exists(bound, inner) => *bound == sort && is_atom(inner, terms),
         _ => false,
     }
 }
@@ -175,7 +175,7 @@ fn is_all(formula: &Formula, terms: &[(u32, i128)]) -> bool {
 /// Whether a formula says of all integers at the last place but one that it is so for some integer at the last.
 fn is_all_some(formula: &Formula, terms: &[(u32, i128)]) -> bool {
     match for_all(formula) {
-        Some(body) => is_some(body, terms),
+        Some(body) => is_some(body, Sort::Int, terms),
         None => false,
     }
 }
@@ -184,7 +184,14 @@ fn is_all_some(formula: &Formula, terms: &[(u32, i128)]) -> bool {
 #[test]
 fn some_integer_is_bound(rt: HostRuntime) -> Result<(), Fail> {
     let formula = shown(rt.alloc(), b"show (x int): exists y int: x <= y;")?;
-    assert!(rt; is_some(&formula, &[(0, 1), (1, -1)]));
+    assert!(rt; is_some(&formula, Sort::Int, &[(0, 1), (1, -1)]));
+    Ok(())
+}
+
+#[test]
+fn some_real_is_bound(rt: HostRuntime) -> Result<(), Fail> {
+    let formula = shown(rt.alloc(), b"show (x int): exists y real: x <= y;")?;
+    assert!(rt; is_some(&formula, Sort::Real, &[(0, 1), (1, -1)]));
     Ok(())
 }
 
@@ -285,38 +292,34 @@ fn bound_names_are_wrong_at_a_place(rt: HostRuntime) -> Result<(), Fail> {
     Ok(())
 }
 
+/// Whether an answer keeps the pairs of a loop over one real variable, which has a start and an end.
+fn keeps_real_pairs(answer: &Answer) -> bool {
+    match answer {
+        Ok(Some(Statement::Loop { vars, .. })) => {
+            vars.sorts() == [Sort::Real, Sort::Real].as_slice()
+        }
+        _ => false,
+    }
+}
+
 #[test]
-fn bound_reals_are_not_built(rt: HostRuntime) -> Result<(), Fail> {
-    let unbuilt = Some(ScriptError::Unbuilt);
-    assert_eq!(rt;
-        refusal(rt.alloc(), b"show (x int): exists y real: x <= y;", &[])?,
-        unbuilt
-    );
-    assert_eq!(rt;
-        refusal(
-            rt.alloc(),
-            b"show (x int): forall y int, z real: true;",
-            &[]
-        )?,
-        unbuilt
-    );
+fn reals_are_declared(rt: HostRuntime) -> Result<(), Fail> {
+    let script = b"loop L (x real) when x <= 10 do x := x + 1;";
+    let mut source = source(rt.alloc(), script, 3, &[])?;
+    let mut statements = reader(rt.alloc())?;
+    let first = next(rt.alloc(), &mut statements, &mut source)?;
+    assert!(rt; keeps_real_pairs(&first));
     Ok(())
 }
 
 #[test]
-fn reals_are_not_built(rt: HostRuntime) -> Result<(), Fail> {
-    let unbuilt = Some(ScriptError::Unbuilt);
-    assert_eq!(rt;
-        refusal(
-            rt.alloc(),
-            b"loop L (x real) when x <= 10 do x := x + 1;",
-            &[]
-        )?,
-        unbuilt
-    );
+fn names_are_wrong_among_reals(rt: HostRuntime) -> Result<(), Fail> {
     assert_eq!(rt;
         refusal(rt.alloc(), b"set A (x real) = y <= 1;", &[])?,
-        unbuilt
+        Some(ScriptError::Name {
+            fault: NameFault::Unknown,
+            place: 17
+        })
     );
     assert_eq!(rt;
         refusal(rt.alloc(), b"; check true", &[])?,
