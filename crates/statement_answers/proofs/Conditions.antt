@@ -1,11 +1,10 @@
 -- What the crates of substitution and of compiling say of formulas alike, and choices of limits.
-use Rattle.std.proofs.Common.{◌≡◌, ℕ, ◌+◌, Bool, true, false, ◌&&◌, Option, None, Some, cond, refl, sym, ap}
+use Rattle.std.proofs.Common.{◌≡◌, ℕ, ◌+◌, Bool, true, false, Option, None, Some, cond, refl, ap}
 use Rattle.std.specs.Prelude.{is_some}
 use Rattle.std.proofs.lemmas.Bool.{true≢false}
-use Rattle.lash_model.specs.Formulas.{Sort, Int, Real, Formula, Atom, Not, And, Or, Exists}
-use Rattle.formula_core.specs.Counts.{binds_ints, is_int}
+use Rattle.lash_model.specs.Formulas.{Formula, Atom, Not, And, Or, Exists}
 use Rattle.term_substitution.specs.Conditions.{IsOver as IsSubstitutedOver}
-use Rattle.set_compile.specs.Conditions.{IsOver, BindsIntegers}
+use Rattle.set_compile.specs.Conditions.{IsOver}
 
 pub compiled_over : (m : ℕ) (f : Formula) → IsSubstitutedOver m f → IsOver m f
 compiled_over m (Atom kind a) h = record { places = h.places; inside = h.inside }
@@ -21,26 +20,7 @@ substituted_over m (And f g) h = (substituted_over m f h.0, substituted_over m g
 substituted_over m (Or f g) h = (substituted_over m f h.0, substituted_over m g h.1)
 substituted_over m (Exists s f) h = substituted_over (m + 1) f h
 
-first_true : (x y : Bool) → (x && y) ≡ true → x ≡ true
-first_true true y e = refl
-first_true false y e = e
-
-second_true : (x y : Bool) → (x && y) ≡ true → y ≡ true
-second_true true y e = e
-second_true false y e = absurd (true≢false (sym e))
-
-an_int : (s : Sort) → is_int s ≡ true → s ≡ Int
-an_int Int e = refl
-an_int Real e = absurd (true≢false (sym e))
-
-pub binds_integers : (f : Formula) → binds_ints f ≡ true → BindsIntegers f
-binds_integers (Atom kind a) e = tt
-binds_integers (Not f) e = binds_integers f e
-binds_integers (And f g) e = (binds_integers f (first_true (binds_ints f) (binds_ints g) e), binds_integers g (second_true (binds_ints f) (binds_ints g) e))
-binds_integers (Or f g) e = (binds_integers f (first_true (binds_ints f) (binds_ints g) e), binds_integers g (second_true (binds_ints f) (binds_ints g) e))
-binds_integers (Exists s f) e = (an_int s (first_true (is_int s) (binds_ints f) e), binds_integers f (second_true (is_int s) (binds_ints f) e))
-
--- where a choice is none, the test failed, and what comes behind it is none
+-- if a choice is none, the test failed, and what comes after it is none
 pub record IsPassed {A : Type 0} (b : Bool) (o : Option A) : Type 0 where
   pub test : b ≡ false
   pub rest : o ≡ None

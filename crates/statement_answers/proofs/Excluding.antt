@@ -1,10 +1,10 @@
 -- A statement that can be answered has no cause for a refusal, and no statement has two. The laws of the crates below are given.
-use Rattle.std.proofs.Common.{◌≡◌, ℕ, ◌+◌, ◌≤◌, ◌<◌, List, [], ◌∷◌, length, arith, refl, sym, ap, ap₂, ◌∙◌, subst, false, Option, Some, None}
+use Rattle.std.proofs.Common.{◌≡◌, ℕ, ◌+◌, ◌≤◌, ◌<◌, List, [], ◌∷◌, arith, refl, sym, ap, ap₂, ◌∙◌, subst, false, Option, Some, None}
 use Rattle.parser_laws.proofs.Parts.{same_some, not_none}
 use Rattle.lash_model.specs.Formulas.{Sort, Formula}
 use Rattle.lash_model.specs.Tables.{Table}
-use Rattle.graph_laws.specs.Exploring.{IsHeavy}
 use Rattle.formula_core.specs.FewLetters.{FitsLetters}
+use Rattle.formula_core.specs.Variables.{sorts_of}
 use Rattle.term_substitution.specs.Limits.{first_passed}
 use Rattle.term_substitution.specs.declared.errors.FormError.{FormError}
 use Rattle.term_substitution.specs.declared.errors.FormError.TheVariants as form
@@ -12,12 +12,11 @@ use Rattle.matrix_powers.specs.Matrices.{Square}
 use Rattle.matrix_powers.specs.Powers.{HasNoPower, IsLeastPower}
 use Rattle.loop_laws.specs.Turns.{Body}
 use Rattle.loop_laws.specs.Closures.{closure_of, count_place}
-use Rattle.product_ops.specs.Pairs.{pairs, IsPairTable}
-use Rattle.product_ops.specs.Tracks.{TrackLists}
-use Rattle.product_ops.specs.declared.operation.Op.{Op}
+use Rattle.product_ops.specs.Products.{IsHeavyProduct}
 use Rattle.product_ops.specs.declared.operation.Op.TheVariants.{AndNot}
 use Rattle.set_answers.specs.Differences.{all_tracks}
-use Rattle.set_compile.specs.Steps.{IsCompiled, IsRefused}
+use Rattle.set_compile.specs.Compiling.{IsCompiled, IsRefused}
+use Rattle.set_compile.proofs.Refusing.{PairsExclude}
 use Rattle.script_names.specs.Kept.{KeptSet}
 use Rattle.script_meaning.specs.declared.limits.Which.{Which}
 use Rattle.script_meaning.specs.declared.limits.Which.TheVariants as limit
@@ -25,24 +24,25 @@ use Rattle.statement_meaning.specs.Asking.{Asked, Show, Set, Print, Solve, Test,
 use Rattle.statement_answers.specs.Automata.{cells_of, IsAnswer}
 use Rattle.statement_answers.specs.Keeping.{kept_cells_limit, cells_of_all, HaveAutomata, OfTwo}
 use Rattle.statement_answers.specs.Loops.{pairs_of, HasPairs, ClosurePasses, IsClosurePassed}
-use Rattle.statement_answers.specs.Pieces.{ArePaired, AreHeavyPairs, IsKeptWith, IsPieceOf, IsHeavyAsked, IsTooMuch, IsPowerless, IsPassedByClosure, IsAnswerable, IsUnanswered}
+use Rattle.statement_answers.specs.Pieces.{ArePaired, AreHeavyPairs, IsKeptWith, IsPieceOf, IsUnbuilt, IsHeavyAsked, IsTooMuch, IsPowerless, IsPassedByClosure, IsAnswerable, IsUnanswered}
 use Rattle.statement_answers.specs.declared.settings.Settings.{Settings}
 use Rattle.statement_answers.specs.declared.errors.Unanswered.{Unanswered}
-use Rattle.statement_answers.specs.declared.errors.Unanswered.TheVariants.{Heavy, NoPower, Closure, KeptCells, Fault, Memory}
+use Rattle.statement_answers.specs.declared.errors.Unanswered.TheVariants.{Unbuilt, Heavy, NoPower, Closure, KeptCells, Fault, Memory}
 
 -- what the crates below say of tables and powers
 pub record Laws : Type 0 where
-  pub heavy : (base m limit : ℕ) (f : Formula) (t : Table) → IsRefused base m limit f → IsCompiled base m limit f t → ⊥
-  pub one_table : (base m limit : ℕ) (f : Formula) (t u : Table) → IsCompiled base m limit f t → IsCompiled base m limit f u → t ≡ u
-  pub heavy_pairs : (op : Op) (a b : Table) (m : TrackLists) (limit : ℕ) (t : Table) → IsHeavy (pairs a b m) limit → IsPairTable op a b m limit t → ⊥
+  pub heavy : (base limit : ℕ) (sorts : List Sort) (f : Formula) (t : Table) → IsRefused base limit sorts f → IsCompiled base limit sorts f t → ⊥
+  pub one_table : (base limit : ℕ) (sorts : List Sort) (f : Formula) (t u : Table) → IsCompiled base limit sorts f t → IsCompiled base limit sorts f u → t ≡ u
+  pub heavy_pairs : PairsExclude
   pub one_power : (a : Square) (p q : ℕ) → IsLeastPower a p → IsLeastPower a q → p ≡ q
   pub powerless : (a : Square) (p : ℕ) → IsLeastPower a p → HasNoPower a → ⊥
 
 one_answer : (settings : Settings) → Laws → (vars : List (List ℕ × Sort)) (f : Formula) (t u : Table) → IsAnswer settings vars f t → IsAnswer settings vars f u → t ≡ u
-one_answer settings l vars f t u h k = l.one_table settings.base (length vars) settings.cells f t u h.made k.made
+one_answer settings l vars f t u h k = l.one_table settings.base settings.cells (sorts_of vars) f t u h.made k.made
 
-not_refused : (settings : Settings) → Laws → (vars : List (List ℕ × Sort)) (f : Formula) (t : Table) → IsAnswer settings vars f t → IsRefused settings.base (length vars) settings.cells f → ⊥
-not_refused settings l vars f t h r = l.heavy settings.base (length vars) settings.cells f t r h.made
+not_refused : (settings : Settings) → Laws → (vars : List (List ℕ × Sort)) (f : Formula) (t : Table) → IsAnswer settings vars f t
+    → IsRefused settings.base settings.cells (sorts_of vars) f → ⊥
+not_refused settings l vars f t h r = l.heavy settings.base settings.cells (sorts_of vars) f t r h.made
 
 one_automata : (settings : Settings) → Laws → (kept : List KeptSet) (ts us : List Table) → HaveAutomata settings kept ts → HaveAutomata settings kept us → ts ≡ us
 one_automata settings l [] [] [] h k = refl
@@ -61,9 +61,13 @@ kept_apart settings l kept vars f h k =
     apart : (m n : ℕ) → m ≤ kept_cells_limit → kept_cells_limit < n → m ≡ n → ⊥
     apart m n low high is = absurd (omega (arith, low, high, is))
 
--- the pairs of two sets are within the limit or not
+-- the product of two sets is within the limit or not
 pairs_apart : (settings : Settings) → Laws → (k l : KeptSet) → ArePaired settings k l → AreHeavyPairs settings k l → ⊥
-pairs_apart settings laws k l (t, (u, ((a, b), within))) (v, (w, ((c, d), heavy))) = laws.heavy_pairs AndNot t u (all_tracks t.tracks) settings.cells within.table (subst (λ x. IsHeavy (pairs x u (all_tracks x.tracks)) settings.cells) (one_answer settings laws k.vars k.formula v t c a) (subst (λ x. IsHeavy (pairs v x (all_tracks v.tracks)) settings.cells) (one_answer settings laws l.vars l.formula w u d b) heavy)) within.pairs
+pairs_apart settings laws k l (t, (u, ((a, b), within))) (v, (w, ((c, d), heavy))) =
+    laws.heavy_pairs AndNot t u (all_tracks t.tracks) settings.cells within.table
+    (subst (λ x. IsHeavyProduct x u (all_tracks x.tracks) settings.cells) (one_answer settings laws k.vars k.formula v t c a)
+    (subst (λ x. IsHeavyProduct v x (all_tracks v.tracks) settings.cells) (one_answer settings laws l.vars l.formula w u d b) heavy))
+    within.pairs
 
 two_apart : (settings : Settings) → Laws → (kept : List KeptSet) (i j : ℕ) → OfTwo kept i j (ArePaired settings) → OfTwo kept i j (AreHeavyPairs settings) → ⊥
 two_apart settings laws kept i j (k, (at_k, (l, (at_l, paired)))) (m, (at_m, (n, (at_n, heavy)))) = pairs_apart settings laws k l paired (subst (λ x. AreHeavyPairs settings x l) (same_some m k (sym at_m ∙ at_k)) (subst (λ x. AreHeavyPairs settings m x) (same_some n l (sym at_n ∙ at_l)) heavy))
@@ -131,17 +135,29 @@ piece_answerable settings kept (Subset i j) piece h = (h.0, (h.1.0, (h.1.1.0, (h
 piece_answerable settings kept (Check f) piece h = h.0
 piece_answerable settings kept (Loop name vars body) piece h = (h.0, h.1.1)
 
--- a statement that can be answered has no cause
+-- a statement that can be answered has no cause: it is built
+not_unbuilt : (settings : Settings) (kept : List KeptSet) (asked : Asked) → IsAnswerable settings kept asked → IsUnbuilt settings kept asked → ⊥
+not_unbuilt settings kept (Show vars f) h k = k h.1.built
+not_unbuilt settings kept (Set name vars f) h k = k h.answer.built
+not_unbuilt settings kept (Print at) h k = k
+not_unbuilt settings kept (Solve at) h k = k
+not_unbuilt settings kept (Test at values) h k = k
+not_unbuilt settings kept (Equal i j) h k = k
+not_unbuilt settings kept (Subset i j) h k = k
+not_unbuilt settings kept (Check f) h k = k h.1.built
+not_unbuilt settings kept (Loop name vars body) h k = k.1 h.1.answer.built
+
+-- its steps are within the limit
 not_heavy : (settings : Settings) → Laws → (kept : List KeptSet) (asked : Asked) → IsAnswerable settings kept asked → IsHeavyAsked settings kept asked → ⊥
-not_heavy settings l kept (Show vars f) h k = not_refused settings l vars f h.0 h.1 k
-not_heavy settings l kept (Set name vars f) h k = not_refused settings l vars f h.table h.answer k
+not_heavy settings l kept (Show vars f) h k = not_refused settings l vars f h.0 h.1 k.1
+not_heavy settings l kept (Set name vars f) h k = not_refused settings l vars f h.table h.answer k.1
 not_heavy settings l kept (Print at) h k = k
 not_heavy settings l kept (Solve at) h k = k
 not_heavy settings l kept (Test at values) h k = k
 not_heavy settings l kept (Equal i j) h k = k
 not_heavy settings l kept (Subset i j) h k = two_apart settings l kept i j h k
-not_heavy settings l kept (Check f) h k = not_refused settings l [] f h.0 h.1 k
-not_heavy settings l kept (Loop name vars body) h k = not_refused settings l vars (pairs_of body) h.1.table h.1.answer k.1
+not_heavy settings l kept (Check f) h k = not_refused settings l [] f h.0 h.1 k.1
+not_heavy settings l kept (Loop name vars body) h k = not_refused settings l vars (pairs_of body) h.1.table h.1.answer k.1.1
 
 -- it has powers
 not_powerless : (settings : Settings) → Laws → (kept : List KeptSet) (asked : Asked) → IsAnswerable settings kept asked → IsPowerless kept asked → ⊥
@@ -180,6 +196,7 @@ not_too_much settings l kept (Check f) h k = k
 not_too_much settings l kept (Loop name vars body) h k = kept_apart settings l kept vars (pairs_of body) h.1 k.1
 
 pub not_unanswered : (settings : Settings) → Laws → (kept : List KeptSet) (asked : Asked) (u : Unanswered) → IsAnswerable settings kept asked → IsUnanswered settings kept asked u → ⊥
+not_unanswered settings l kept asked Unbuilt h k = not_unbuilt settings kept asked h k
 not_unanswered settings l kept asked Heavy h k = not_heavy settings l kept asked h k
 not_unanswered settings l kept asked NoPower h k = not_powerless settings l kept asked h k
 not_unanswered settings l kept asked (Closure which) h k = not_passed settings l kept asked which h k
@@ -187,7 +204,53 @@ not_unanswered settings l kept asked KeptCells h k = not_too_much settings l kep
 not_unanswered settings l kept asked Fault h k = k
 not_unanswered settings l kept asked Memory h k = k
 
--- no two causes: a construction has too many cells, and there is no power
+-- no two causes: the statement is not built, and a construction has too many cells
+unbuilt_heavy : (settings : Settings) (kept : List KeptSet) (asked : Asked) → IsUnbuilt settings kept asked → IsHeavyAsked settings kept asked → ⊥
+unbuilt_heavy settings kept (Show vars f) h k = h k.0
+unbuilt_heavy settings kept (Set name vars f) h k = h k.0
+unbuilt_heavy settings kept (Print at) h k = k
+unbuilt_heavy settings kept (Solve at) h k = k
+unbuilt_heavy settings kept (Test at values) h k = k
+unbuilt_heavy settings kept (Equal i j) h k = k
+unbuilt_heavy settings kept (Subset i j) h k = h
+unbuilt_heavy settings kept (Check f) h k = h k.0
+unbuilt_heavy settings kept (Loop name vars body) h k = h.1 k.1.0
+
+unbuilt_powerless : (settings : Settings) → Laws → (kept : List KeptSet) (asked : Asked) → IsUnbuilt settings kept asked → IsPowerless kept asked → ⊥
+unbuilt_powerless settings l kept (Show vars f) h k = k
+unbuilt_powerless settings l kept (Set name vars f) h k = k
+unbuilt_powerless settings l kept (Print at) h k = k
+unbuilt_powerless settings l kept (Solve at) h k = k
+unbuilt_powerless settings l kept (Test at values) h k = k
+unbuilt_powerless settings l kept (Equal i j) h k = k
+unbuilt_powerless settings l kept (Subset i j) h k = k
+unbuilt_powerless settings l kept (Check f) h k = k
+unbuilt_powerless settings l kept (Loop name vars body) h k = l.powerless body.matrix h.0.power h.0.least k
+
+unbuilt_passed : (settings : Settings) → Laws → (kept : List KeptSet) (asked : Asked) (which : Which) → IsUnbuilt settings kept asked
+    → IsPassedByClosure settings which kept asked → ⊥
+unbuilt_passed settings l kept (Show vars f) which h k = k
+unbuilt_passed settings l kept (Set name vars f) which h k = k
+unbuilt_passed settings l kept (Print at) which h k = k
+unbuilt_passed settings l kept (Solve at) which h k = k
+unbuilt_passed settings l kept (Test at values) which h k = k
+unbuilt_passed settings l kept (Equal i j) which h k = k
+unbuilt_passed settings l kept (Subset i j) which h k = k
+unbuilt_passed settings l kept (Check f) which h k = k
+unbuilt_passed settings l kept (Loop name vars body) which h k = closure_apart settings.base l body which h.0 k
+
+unbuilt_too_much : (settings : Settings) (kept : List KeptSet) (asked : Asked) → IsUnbuilt settings kept asked → IsTooMuch settings kept asked → ⊥
+unbuilt_too_much settings kept (Show vars f) h k = k
+unbuilt_too_much settings kept (Set name vars f) h k = h k.answer.built
+unbuilt_too_much settings kept (Print at) h k = k
+unbuilt_too_much settings kept (Solve at) h k = k
+unbuilt_too_much settings kept (Test at values) h k = k
+unbuilt_too_much settings kept (Equal i j) h k = k
+unbuilt_too_much settings kept (Subset i j) h k = k
+unbuilt_too_much settings kept (Check f) h k = k
+unbuilt_too_much settings kept (Loop name vars body) h k = h.1 k.1.answer.built
+
+-- a construction has too many cells, and there is no power
 heavy_powerless : (settings : Settings) → Laws → (kept : List KeptSet) (asked : Asked) → IsHeavyAsked settings kept asked → IsPowerless kept asked → ⊥
 heavy_powerless settings l kept (Show vars f) h k = k
 heavy_powerless settings l kept (Set name vars f) h k = k
@@ -212,14 +275,14 @@ heavy_passed settings l kept (Loop name vars body) which h k = closure_apart set
 
 heavy_too_much : (settings : Settings) → Laws → (kept : List KeptSet) (asked : Asked) → IsHeavyAsked settings kept asked → IsTooMuch settings kept asked → ⊥
 heavy_too_much settings l kept (Show vars f) h k = k
-heavy_too_much settings l kept (Set name vars f) h k = not_refused settings l vars f k.table k.answer h
+heavy_too_much settings l kept (Set name vars f) h k = not_refused settings l vars f k.table k.answer h.1
 heavy_too_much settings l kept (Print at) h k = k
 heavy_too_much settings l kept (Solve at) h k = k
 heavy_too_much settings l kept (Test at values) h k = k
 heavy_too_much settings l kept (Equal i j) h k = k
 heavy_too_much settings l kept (Subset i j) h k = k
 heavy_too_much settings l kept (Check f) h k = k
-heavy_too_much settings l kept (Loop name vars body) h k = not_refused settings l vars (pairs_of body) k.1.table k.1.answer h.1
+heavy_too_much settings l kept (Loop name vars body) h k = not_refused settings l vars (pairs_of body) k.1.table k.1.answer h.1.1
 
 powerless_passed : (settings : Settings) → Laws → (kept : List KeptSet) (asked : Asked) (which : Which) → IsPowerless kept asked → IsPassedByClosure settings which kept asked → ⊥
 powerless_passed settings l kept (Show vars f) which h k = k
@@ -266,24 +329,35 @@ one_passed settings l kept (Check f) v w h k = absurd h
 one_passed settings l kept (Loop name vars body) v w h k = one_closure settings.base l body v w h k
 
 pub one_cause : (settings : Settings) → Laws → (kept : List KeptSet) (asked : Asked) (u v : Unanswered) → IsUnanswered settings kept asked u → IsUnanswered settings kept asked v → u ≡ v
+one_cause settings l kept asked Unbuilt Unbuilt h k = refl
+one_cause settings l kept asked Unbuilt Heavy h k = absurd (unbuilt_heavy settings kept asked h k)
+one_cause settings l kept asked Unbuilt NoPower h k = absurd (unbuilt_powerless settings l kept asked h k)
+one_cause settings l kept asked Unbuilt (Closure w) h k = absurd (unbuilt_passed settings l kept asked w h k)
+one_cause settings l kept asked Unbuilt KeptCells h k = absurd (unbuilt_too_much settings kept asked h k)
+one_cause settings l kept asked Unbuilt Fault h k = absurd k
+one_cause settings l kept asked Unbuilt Memory h k = absurd k
+one_cause settings l kept asked Heavy Unbuilt h k = absurd (unbuilt_heavy settings kept asked k h)
 one_cause settings l kept asked Heavy Heavy h k = refl
 one_cause settings l kept asked Heavy NoPower h k = absurd (heavy_powerless settings l kept asked h k)
 one_cause settings l kept asked Heavy (Closure w) h k = absurd (heavy_passed settings l kept asked w h k)
 one_cause settings l kept asked Heavy KeptCells h k = absurd (heavy_too_much settings l kept asked h k)
 one_cause settings l kept asked Heavy Fault h k = absurd k
 one_cause settings l kept asked Heavy Memory h k = absurd k
+one_cause settings l kept asked NoPower Unbuilt h k = absurd (unbuilt_powerless settings l kept asked k h)
 one_cause settings l kept asked NoPower Heavy h k = absurd (heavy_powerless settings l kept asked k h)
 one_cause settings l kept asked NoPower NoPower h k = refl
 one_cause settings l kept asked NoPower (Closure w) h k = absurd (powerless_passed settings l kept asked w h k)
 one_cause settings l kept asked NoPower KeptCells h k = absurd (powerless_too_much settings l kept asked h k)
 one_cause settings l kept asked NoPower Fault h k = absurd k
 one_cause settings l kept asked NoPower Memory h k = absurd k
+one_cause settings l kept asked (Closure v) Unbuilt h k = absurd (unbuilt_passed settings l kept asked v k h)
 one_cause settings l kept asked (Closure v) Heavy h k = absurd (heavy_passed settings l kept asked v k h)
 one_cause settings l kept asked (Closure v) NoPower h k = absurd (powerless_passed settings l kept asked v k h)
 one_cause settings l kept asked (Closure v) (Closure w) h k = ap Closure (one_passed settings l kept asked v w h k)
 one_cause settings l kept asked (Closure v) KeptCells h k = absurd (passed_too_much settings l kept asked v h k)
 one_cause settings l kept asked (Closure v) Fault h k = absurd k
 one_cause settings l kept asked (Closure v) Memory h k = absurd k
+one_cause settings l kept asked KeptCells Unbuilt h k = absurd (unbuilt_too_much settings kept asked k h)
 one_cause settings l kept asked KeptCells Heavy h k = absurd (heavy_too_much settings l kept asked k h)
 one_cause settings l kept asked KeptCells NoPower h k = absurd (powerless_too_much settings l kept asked k h)
 one_cause settings l kept asked KeptCells (Closure w) h k = absurd (passed_too_much settings l kept asked w k h)

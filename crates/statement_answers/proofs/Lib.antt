@@ -1,4 +1,4 @@
-pub mod Integers
+pub mod TableKinds
 pub mod Shelving
 pub mod Saying
 pub mod Conditions

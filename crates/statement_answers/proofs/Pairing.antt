@@ -1,12 +1,11 @@
 -- The pairs of a loop as a set that is kept.
 use Rattle.std.proofs.Common.{◌≡◌, ℕ, zero, suc, ◌+◌, ◌≤◌, ◌^◌, List, length, arith, sym, ap, ◌∙◌, subst, None, nat_lt}
-use Rattle.std.specs.Prelude.{Result, Ok, Err, true, false}
+use Rattle.std.specs.Prelude.{Result, Ok, Err, false}
 use Rattle.std.proofs.Math.Nat.{pow-le-pow_left}
 use Rattle.std.proofs.lemmas.Bool.{ltb-false}
 use Rattle.lash_model.specs.Formulas.{Sort, Formula}
-use Rattle.formula_core.specs.Counts.{nodes_of, depth_of, binds_ints}
+use Rattle.formula_core.specs.Counts.{nodes_of, depth_of}
 use Rattle.formula_core.specs.FewLetters.{FitsLetters}
-use Rattle.formula_core.specs.Variables.{sorts_of}
 use Rattle.term_substitution.specs.Conditions.{IsOver, variables_limit}
 use Rattle.term_substitution.specs.Limits.{first_passed, nodes_limit, depth_limit}
 use Rattle.term_substitution.specs.declared.errors.FormError.TheVariants as form
@@ -19,23 +18,23 @@ use Rattle.loop_closure.specs.declared.errors.LoopError.TheVariants as unclosed
 use Rattle.script_names.specs.Kept.{KeptSet, IsKept}
 use Rattle.script_meaning.specs.declared.limits.Which.TheVariants as limit
 use Rattle.statement_meaning.specs.Asking.{Set, Loop}
-use Rattle.set_answers.specs.Sorts.{AreIntegers}
-use Rattle.set_compile.specs.Conditions.{IsOver as Over, BindsIntegers}
-use Rattle.statement_answers.specs.Automata.{IsGiven, IsOfIntegers}
+use Rattle.set_compile.specs.Conditions.{IsOver as Over}
+use Rattle.statement_answers.specs.Automata.{IsGiven}
 use Rattle.statement_answers.specs.declared.settings.Settings.{Settings}
 use Rattle.statement_answers.specs.Loops.{closed_at, pairs_of, IsClosurePassed, IsFitLoop, IsPairing, IsUnpaired, unclosed_of}
 use Rattle.statement_answers.specs.Pieces.{KeepsSilent}
 use Rattle.statement_answers.specs.declared.errors.Unanswered.{Unanswered}
-use Rattle.statement_answers.specs.declared.errors.Unanswered.TheVariants.{Heavy, NoPower, Closure, KeptCells, Fault, Memory}
-use Rattle.statement_answers.proofs.Conditions.{compiled_over, binds_integers, passed_over}
+use Rattle.statement_answers.specs.declared.errors.Unanswered.TheVariants.{Unbuilt, Heavy, NoPower, Closure, KeptCells, Fault, Memory}
+use Rattle.statement_answers.proofs.Conditions.{compiled_over, passed_over}
 
 -- the closure over the least power is the formula of the pairs
 pub closed_pairs : (l : Body) (f : Formula) (h : IsClosed false l f) → pairs_of l ≡ closure_of false l h.power
 closed_pairs l f h = ap (closed_at l) (least_is_found l.matrix h.power h.least)
 
 -- a closure that passes no limit, and whose letters are few
-pub pairing : (base : ℕ) (l : Body) (f : Formula) → IsClosed false l f → first_passed f ≡ None → IsOver (count_place l) f → binds_ints f ≡ true → FitsLetters base f (count_place l) → IsPairing base l f
-pairing base l f h within over bound letters =
+pub pairing : (base : ℕ) (l : Body) (f : Formula) → IsClosed false l f → first_passed f ≡ None → IsOver (count_place l) f → FitsLetters base f (count_place l)
+    → IsPairing base l f
+pairing base l f h within over letters =
     let is : f ≡ pairs_of l = h.same ∙ sym (closed_pairs l f h) in
     record {
       has = record {
@@ -47,7 +46,6 @@ pairing base l f h within over bound letters =
       };
       same = is;
       over = over;
-      bound = bound;
     }
 
 -- one whose letters are many
@@ -67,19 +65,12 @@ unpaired base l unclosed.Coefficient h = record { power = h.power; least = h.lea
 unpaired base l unclosed.Constant h = record { power = h.power; least = h.least; passes = h.first }
 unpaired base l unclosed.Memory h = tt
 
--- the pairs are a set of integers
+-- the pairs are a set inside the limits
 pub pairs_given : (base : ℕ) (kept : List KeptSet) (name : List ℕ) (vars : List (List ℕ × Sort)) (l : Body) (f : Formula) → IsFitLoop kept name vars l → IsPairing base l f → IsGiven base vars f
 pairs_given base kept name vars l f fit h = record {
   over = subst (λ n. Over n f) (sym fit.count) (compiled_over (count_place l) f h.over);
   letters = subst (λ g. FitsLetters base g (length vars)) (sym h.same) (subst (λ n. FitsLetters base (pairs_of l) n) (sym fit.count) h.has.letters);
 }
-
--- all their variables are integers
-pub pairs_of_integers : (base : ℕ) (vars : List (List ℕ × Sort)) (l : Body) (f : Formula) → AreIntegers (sorts_of vars) → IsPairing base l f → IsOfIntegers vars f
-pairs_of_integers base vars l f integers h = record { sorts = integers; bound = binds_integers f h.bound }
-
-pub pairs_bound : (base : ℕ) (l : Body) (f : Formula) → IsPairing base l f → BindsIntegers (pairs_of l)
-pairs_bound base l f h = subst BindsIntegers h.same (binds_integers f h.bound)
 
 -- few letters are of few variables
 pub few_places : (base n : ℕ) → 2 ≤ base → base ^ n ≤ 4096 → n ≤ variables_limit
@@ -108,6 +99,7 @@ loop_silent settings kept name vars l f {U = U} r h silent = by r (subst (λ g. 
   where
     by : (r : Result U Unanswered) → KeepsSilent settings kept (Set name vars (pairs_of l)) r → KeepsSilent settings kept (Loop name vars l) r
     by (Ok u) k = (h.has, k)
+    by (Err Unbuilt) k = (h.has, k)
     by (Err Heavy) k = (h.has, k)
     by (Err NoPower) k = absurd k
     by (Err (Closure which)) k = absurd k
@@ -117,6 +109,7 @@ loop_silent settings kept name vars l f {U = U} r h silent = by r (subst (λ g. 
 
 -- a loop without pairs is not kept
 pub unpaired_silent : (settings : Settings) (kept : List KeptSet) (name : List ℕ) (vars : List (List ℕ × Sort)) (l : Body) (U : Type 0) (e : Unanswered) → IsUnpaired settings.base l e → KeepsSilent settings kept (Loop name vars l) {U = U} (Err e)
+unpaired_silent settings kept name vars l U Unbuilt h = absurd h
 unpaired_silent settings kept name vars l U Heavy h = absurd h
 unpaired_silent settings kept name vars l U NoPower h = h
 unpaired_silent settings kept name vars l U (Closure which) h = h

@@ -1,7 +1,6 @@
 -- The sets that loops keep: the pairs of vectors that some number of turns joins. Own.
-use Rattle.std.specs.Prelude.{ℕ, ◌≡◌, ◌<◌, List, length, true, false, Option, None, Some}
+use Rattle.std.specs.Prelude.{ℕ, ◌≡◌, ◌<◌, List, length, false, Option, None, Some}
 use Rattle.lash_model.specs.Formulas.{Sort, Formula}
-use Rattle.formula_core.specs.Counts.{binds_ints}
 use Rattle.formula_core.specs.FewLetters.{FitsLetters}
 use Rattle.term_substitution.specs.Conditions.{IsOver}
 use Rattle.term_substitution.specs.Limits.{first_passed}
@@ -18,7 +17,7 @@ use Rattle.script_meaning.specs.Core.{truth}
 use Rattle.script_meaning.specs.declared.limits.Which.{Which}
 use Rattle.script_meaning.specs.declared.limits.Which.TheVariants as limit
 use Rattle.statement_answers.specs.declared.errors.Unanswered.{Unanswered}
-use Rattle.statement_answers.specs.declared.errors.Unanswered.TheVariants.{Heavy, NoPower, Closure, KeptCells, Fault, Memory}
+use Rattle.statement_answers.specs.declared.errors.Unanswered.TheVariants.{Unbuilt, Heavy, NoPower, Closure, KeptCells, Fault, Memory}
 
 -- the closure over a power; there is none without one
 abbrev pub closed_at : Body → Option ℕ → Formula
@@ -70,6 +69,7 @@ pub record IsFitLoop (kept : List KeptSet) (name : List ℕ) (vars : List (List 
 abbrev pub IsUnpaired : ℕ → Body → Unanswered → Type 0
 IsUnpaired base l NoPower = HasNoPower l.matrix
 IsUnpaired base l (Closure which) = IsClosurePassed base l which
+IsUnpaired base l Unbuilt = ⊥
 IsUnpaired base l Heavy = ⊥
 IsUnpaired base l KeptCells = ⊥
 IsUnpaired base l Fault = ⊥
@@ -84,9 +84,8 @@ unclosed_of unclosed.Coefficient = Closure limit.Coefficient
 unclosed_of unclosed.Constant = Closure limit.Constant
 unclosed_of unclosed.Memory = Memory
 
--- the formula is that of the loop's pairs: over the variables, inside the limits, and binding integers alone
+-- the formula is that of the loop's pairs: over the variables and inside the limits
 pub record IsPairing (base : ℕ) (l : Body) (f : Formula) : Type 0 where
   pub has : HasPairs base l
   pub same : f ≡ pairs_of l
   pub over : IsOver (count_place l) f
-  pub bound : binds_ints f ≡ true

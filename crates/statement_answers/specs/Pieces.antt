@@ -5,30 +5,27 @@ use Rattle.lash_model.specs.Formulas.{Sort, Formula}
 use Rattle.lash_model.specs.Meaning.{Solves}
 use Rattle.lash_model.specs.Tables.{Table}
 use Rattle.automaton_texts.specs.Text.{text_of}
-use Rattle.graph_laws.specs.Exploring.{IsHeavy}
 use Rattle.formula_core.specs.Variables.{sorts_of}
-use Rattle.fraction_codes.specs.Fractions.{IsSmall, IsCommonDenominator}
+use Rattle.fraction_codes.specs.Fractions.{IsSmall}
 use Rattle.fraction_codes.specs.declared.ratio.Ratio.{Ratio}
 use Rattle.lash_io.specs.Sinks.{Holds, HoldsPart}
-use Rattle.product_ops.specs.Pairs.{pairs}
+use Rattle.product_ops.specs.Products.{IsHeavyProduct}
 use Rattle.set_answers.specs.Agreement.{Agree, Includes}
 use Rattle.set_answers.specs.Differences.{AreWithin, all_tracks}
 use Rattle.set_answers.specs.Solving.{IsSolved}
-use Rattle.set_answers.specs.Sorts.{AreIntegers}
-use Rattle.set_answers.specs.Vectors.{IsVectorOf}
-use Rattle.set_compile.specs.Steps.{IsRefused}
-use Rattle.set_compile.specs.declared.errors.CompileError.{CompileError}
-use Rattle.set_compile.specs.declared.errors.CompileError.TheVariants.{Heavy as TooHeavy, Memory as NoMemory}
+use Rattle.set_answers.specs.Vectors.{IsVectorOf, HasCoarseDenominator}
+use Rattle.set_compile.specs.Compiling.{IsRefused}
+use Rattle.set_compile.specs.Conditions.{IsBuilt}
 use Rattle.script_names.specs.Kept.{KeptSet, IsKept, kept_place, sets_limit}
 use Rattle.statement_meaning.specs.Asking.{Asked, Show, Set, Print, Solve, Test, Equal, Subset, Check, Loop}
-use Rattle.statement_answers.specs.Automata.{cells_of, IsGiven, IsAnswer, IsOfIntegers}
+use Rattle.statement_answers.specs.Automata.{cells_of, IsGiven, IsAnswer}
 use Rattle.statement_answers.specs.Keeping.{kept_cells_limit, cells_of_all, HaveAutomata, OfKept, OfTwo}
 use Rattle.matrix_powers.specs.Powers.{HasNoPower}
 use Rattle.script_meaning.specs.declared.limits.Which.{Which}
 use Rattle.statement_answers.specs.Loops.{pairs_of, HasPairs, IsClosurePassed, IsFitLoop}
 use Rattle.statement_answers.specs.declared.settings.Settings.{Settings}
 use Rattle.statement_answers.specs.declared.errors.Unanswered.{Unanswered}
-use Rattle.statement_answers.specs.declared.errors.Unanswered.TheVariants.{Heavy, NoPower, Closure, KeptCells, Fault, Memory}
+use Rattle.statement_answers.specs.declared.errors.Unanswered.TheVariants.{Unbuilt, Heavy, NoPower, Closure, KeptCells, Fault, Memory}
 
 -- the text of the set's automaton
 pub record IsShownAs (settings : Settings) (vars : List (List ℕ × Sort)) (f : Formula) (piece : List ℕ) : Type 0 where
@@ -53,13 +50,13 @@ yes_or_no P piece = IsDecided (codes "yes\n") (codes "no\n") P piece
 abbrev pub IsTested : KeptSet → List Ratio → List ℕ → Type 0
 IsTested k values piece = (ns : List ℤ) (d : ℕ) → IsVectorOf values ns d → IsDecided (codes "in\n") (codes "out\n") (Solves (sorts_of k.vars) k.formula ns d) piece
 
--- the pairs of the two sets' automata are within the limit of cells
+-- the product of the two sets' automata is within the limit of cells
 abbrev pub ArePaired : Settings → KeptSet → KeptSet → Type 0
 ArePaired settings k l = (t : Table) × ((u : Table) × ((IsAnswer settings k.vars k.formula t × IsAnswer settings l.vars l.formula u) × AreWithin t u settings.cells))
 
--- or they are not
+-- or it is not
 abbrev pub AreHeavyPairs : Settings → KeptSet → KeptSet → Type 0
-AreHeavyPairs settings k l = (t : Table) × ((u : Table) × ((IsAnswer settings k.vars k.formula t × IsAnswer settings l.vars l.formula u) × IsHeavy (pairs t u (all_tracks t.tracks)) settings.cells))
+AreHeavyPairs settings k l = (t : Table) × ((u : Table) × ((IsAnswer settings k.vars k.formula t × IsAnswer settings l.vars l.formula u) × IsHeavyProduct t u (all_tracks t.tracks) settings.cells))
 
 -- the automata of the kept sets, and that of one more
 pub record IsKeptWith (settings : Settings) (kept : List KeptSet) (vars : List (List ℕ × Sort)) (f : Formula) (P : ℕ → Type 0) : Type 0 where
@@ -81,17 +78,29 @@ IsPieceOf settings kept (Subset i j) piece = OfTwo kept i j (λ k l. ArePaired s
 IsPieceOf settings kept (Loop name vars body) piece = HasPairs settings.base body × ((piece ≡ []) × IsKeptWith settings kept vars (pairs_of body) (λ n. n ≤ kept_cells_limit))
 IsPieceOf settings kept (Check f) piece = ((t : Table) × IsAnswer settings [] f t) × IsDecided (codes "true\n") (codes "false\n") (Solves [] f [] 1) piece
 
+-- the formula, or that of the loop's pairs, is not built yet: it has a real variable, declared or bound, and binds a variable
+abbrev pub IsUnbuilt : Settings → List KeptSet → Asked → Type 0
+IsUnbuilt settings kept (Show vars f) = IsBuilt (sorts_of vars) f → ⊥
+IsUnbuilt settings kept (Set name vars f) = IsBuilt (sorts_of vars) f → ⊥
+IsUnbuilt settings kept (Print at) = ⊥
+IsUnbuilt settings kept (Solve at) = ⊥
+IsUnbuilt settings kept (Test at values) = ⊥
+IsUnbuilt settings kept (Equal i j) = ⊥
+IsUnbuilt settings kept (Subset i j) = ⊥
+IsUnbuilt settings kept (Check f) = IsBuilt [] f → ⊥
+IsUnbuilt settings kept (Loop name vars body) = HasPairs settings.base body × (IsBuilt (sorts_of vars) (pairs_of body) → ⊥)
+
 -- a construction has too many cells
 abbrev pub IsHeavyAsked : Settings → List KeptSet → Asked → Type 0
-IsHeavyAsked settings kept (Show vars f) = IsRefused settings.base (length vars) settings.cells f
-IsHeavyAsked settings kept (Set name vars f) = IsRefused settings.base (length vars) settings.cells f
+IsHeavyAsked settings kept (Show vars f) = IsBuilt (sorts_of vars) f × IsRefused settings.base settings.cells (sorts_of vars) f
+IsHeavyAsked settings kept (Set name vars f) = IsBuilt (sorts_of vars) f × IsRefused settings.base settings.cells (sorts_of vars) f
 IsHeavyAsked settings kept (Print at) = ⊥
 IsHeavyAsked settings kept (Solve at) = ⊥
 IsHeavyAsked settings kept (Test at values) = ⊥
 IsHeavyAsked settings kept (Equal i j) = ⊥
 IsHeavyAsked settings kept (Subset i j) = OfTwo kept i j (AreHeavyPairs settings)
-IsHeavyAsked settings kept (Check f) = IsRefused settings.base 0 settings.cells f
-IsHeavyAsked settings kept (Loop name vars body) = HasPairs settings.base body × IsRefused settings.base (length vars) settings.cells (pairs_of body)
+IsHeavyAsked settings kept (Check f) = IsBuilt [] f × IsRefused settings.base settings.cells [] f
+IsHeavyAsked settings kept (Loop name vars body) = HasPairs settings.base body × (IsBuilt (sorts_of vars) (pairs_of body) × IsRefused settings.base settings.cells (sorts_of vars) (pairs_of body))
 
 -- the kept sets would have too many cells with this one
 abbrev pub IsTooMuch : Settings → List KeptSet → Asked → Type 0
@@ -132,6 +141,7 @@ IsPassedByClosure settings which kept (Loop name vars body) = IsClosurePassed se
 -- what answering a statement left of a sink
 abbrev pub Answered : Settings → List KeptSet → Asked → Option (List ℕ) → Option (List ℕ) → ℕ → ℕ → {U : Type 0} → Result U Unanswered → Type 0
 Answered settings kept asked before after faults_before faults_after (Ok u) = (piece : List ℕ) × (IsPieceOf settings kept asked piece × Holds before after piece)
+Answered settings kept asked before after faults_before faults_after (Err Unbuilt) = IsUnbuilt settings kept asked × Holds before after []
 Answered settings kept asked before after faults_before faults_after (Err Heavy) = IsHeavyAsked settings kept asked × Holds before after []
 Answered settings kept asked before after faults_before faults_after (Err NoPower) = IsPowerless kept asked × Holds before after []
 Answered settings kept asked before after faults_before faults_after (Err (Closure which)) = IsPassedByClosure settings which kept asked × Holds before after []
@@ -143,7 +153,7 @@ Answered settings kept asked before after faults_before faults_after (Err Memory
 pub record FitsVariables (k : KeptSet) (values : List Ratio) : Type 0 where
   pub count : length values ≡ length k.vars
   pub small : All IsSmall values
-  pub coarse : (d : ℕ) × (IsCommonDenominator values d × (d ≤ 65536))
+  pub coarse : HasCoarseDenominator values
 
 -- a statement whose names are right and that passes no limit
 abbrev pub IsFit : Settings → List KeptSet → Asked → Type 0
@@ -152,26 +162,15 @@ IsFit settings kept (Set name vars f) = (IsGiven settings.base vars f × IsKept 
 IsFit settings kept (Print at) = at < length kept
 IsFit settings kept (Solve at) = at < length kept
 IsFit settings kept (Test at values) = OfKept kept at (λ k. FitsVariables k values)
-IsFit settings kept (Equal i j) = OfTwo kept i j (λ k l. length k.vars ≡ length l.vars)
-IsFit settings kept (Subset i j) = OfTwo kept i j (λ k l. length k.vars ≡ length l.vars)
+IsFit settings kept (Equal i j) = OfTwo kept i j (λ k l. sorts_of k.vars ≡ sorts_of l.vars)
+IsFit settings kept (Subset i j) = OfTwo kept i j (λ k l. sorts_of k.vars ≡ sorts_of l.vars)
 IsFit settings kept (Check f) = IsGiven settings.base [] f
 IsFit settings kept (Loop name vars body) = IsFitLoop kept name vars body
-
--- all variables of a statement are integers, declared and bound; those that a loop binds are in any case
-abbrev pub AsksIntegers : Asked → Type 0
-AsksIntegers (Show vars f) = IsOfIntegers vars f
-AsksIntegers (Set name vars f) = IsOfIntegers vars f
-AsksIntegers (Print at) = Unit {0}
-AsksIntegers (Solve at) = Unit {0}
-AsksIntegers (Test at values) = Unit {0}
-AsksIntegers (Equal i j) = Unit {0}
-AsksIntegers (Subset i j) = Unit {0}
-AsksIntegers (Check f) = IsOfIntegers [] f
-AsksIntegers (Loop name vars body) = AreIntegers (sorts_of vars)
 
 -- the line was put, or a part of it and a fault was counted
 abbrev pub IsSaid : List ℕ → Option (List ℕ) → Option (List ℕ) → ℕ → ℕ → {U : Type 0} → Result U Unanswered → Type 0
 IsSaid line before after faults_before faults_after (Ok u) = Holds before after line
+IsSaid line before after faults_before faults_after (Err Unbuilt) = ⊥
 IsSaid line before after faults_before faults_after (Err Heavy) = ⊥
 IsSaid line before after faults_before faults_after (Err NoPower) = ⊥
 IsSaid line before after faults_before faults_after (Err (Closure which)) = ⊥
@@ -182,6 +181,7 @@ IsSaid line before after faults_before faults_after (Err Memory) = ⊥
 -- the same of a statement that writes nothing
 abbrev pub KeepsSilent : Settings → List KeptSet → Asked → {U : Type 0} → Result U Unanswered → Type 0
 KeepsSilent settings kept asked (Ok u) = IsPieceOf settings kept asked []
+KeepsSilent settings kept asked (Err Unbuilt) = IsUnbuilt settings kept asked
 KeepsSilent settings kept asked (Err Heavy) = IsHeavyAsked settings kept asked
 KeepsSilent settings kept asked (Err NoPower) = IsPowerless kept asked
 KeepsSilent settings kept asked (Err (Closure which)) = IsPassedByClosure settings which kept asked
@@ -189,13 +189,18 @@ KeepsSilent settings kept asked (Err KeptCells) = IsTooMuch settings kept asked
 KeepsSilent settings kept asked (Err Fault) = ⊥
 KeepsSilent settings kept asked (Err Memory) = Unit
 
--- why the automaton of a set is not there
-abbrev pub unbuilt_of : CompileError → Unanswered
-unbuilt_of TooHeavy = Heavy
-unbuilt_of NoMemory = Memory
+-- why a set has no automaton
+abbrev pub HasNoAutomaton : Settings → List (List ℕ × Sort) → Formula → Unanswered → Type 0
+HasNoAutomaton settings vars f Unbuilt = IsBuilt (sorts_of vars) f → ⊥
+HasNoAutomaton settings vars f Heavy = IsBuilt (sorts_of vars) f × IsRefused settings.base settings.cells (sorts_of vars) f
+HasNoAutomaton settings vars f NoPower = ⊥
+HasNoAutomaton settings vars f (Closure which) = ⊥
+HasNoAutomaton settings vars f KeptCells = ⊥
+HasNoAutomaton settings vars f Fault = ⊥
+HasNoAutomaton settings vars f Memory = Unit {0}
 
--- what a statement asks can be answered: its steps are within the limit of cells, its set fits beside the kept ones, its loop has a power and a
--- closure within the limits
+-- what a statement asks can be answered: its set is built, its steps are within the limit of cells, its set fits beside the kept ones, its loop
+-- has a power and a closure within the limits
 abbrev pub IsAnswerable : Settings → List KeptSet → Asked → Type 0
 IsAnswerable settings kept (Show vars f) = (t : Table) × IsAnswer settings vars f t
 IsAnswerable settings kept (Set name vars f) = IsKeptWith settings kept vars f (λ n. n ≤ kept_cells_limit)
@@ -207,8 +212,9 @@ IsAnswerable settings kept (Subset i j) = OfTwo kept i j (ArePaired settings)
 IsAnswerable settings kept (Check f) = (t : Table) × IsAnswer settings [] f t
 IsAnswerable settings kept (Loop name vars body) = HasPairs settings.base body × IsKeptWith settings kept vars (pairs_of body) (λ n. n ≤ kept_cells_limit)
 
--- why it is not answered, where that rests on what is asked
+-- why it is not answered, if that rests on what is asked
 abbrev pub IsUnanswered : Settings → List KeptSet → Asked → Unanswered → Type 0
+IsUnanswered settings kept asked Unbuilt = IsUnbuilt settings kept asked
 IsUnanswered settings kept asked Heavy = IsHeavyAsked settings kept asked
 IsUnanswered settings kept asked NoPower = IsPowerless kept asked
 IsUnanswered settings kept asked (Closure which) = IsPassedByClosure settings which kept asked

@@ -2,11 +2,12 @@
 
 ghost use Rattle.std.specs.Prelude.{◌≡◌, ◌≤◌, ◌<◌, [], if◌then◌else◌, false, length, IfErr, OnErr, OnOk};
 ghost use Rattle.formula_core.specs.Shape.{formula_of};
+ghost use Rattle.formula_core.specs.Variables.{sorts_of};
 ghost use Rattle.script_names.specs.Kept.{IsKept, kept_place, sets_limit};
 ghost use Rattle.statement_meaning.specs.Asking.{Show, Set, Print, Solve, Test, Equal, Subset, Check, asked_of};
-ghost use Rattle.statement_answers.specs.Automata.{AreOfIntegers, IsGiven, IsOfIntegers};
+ghost use Rattle.statement_answers.specs.Automata.{IsGiven};
 ghost use Rattle.statement_answers.specs.Keeping.{OfKept, OfTwo, grown, sets_kept};
-ghost use Rattle.statement_answers.specs.Pieces.{Answered, AsksIntegers, FitsVariables, IsFit, IsSaid, KeepsSilent, takes_memory, unbuilt_of};
+ghost use Rattle.statement_answers.specs.Pieces.{Answered, FitsVariables, IsFit, IsSaid, KeepsSilent, takes_memory};
 
 use crate::building::automaton;
 use crate::errors::Unanswered;
@@ -19,20 +20,9 @@ use fraction_codes::Ratio;
 use lash_io::Sink;
 use script_names::Name;
 use set_answers::{WriteError, contains, equal, holds, subset, write_solution};
-use set_compile::CompileError;
 use statement_meaning::Statement;
 use std::alloc::Global;
 use step_tables::BuildError;
-
-// Why the automaton of a set is not there.
-fn unbuilt(error: CompileError) -> Unanswered
-    ensures { result ≡ unbuilt_of error }
-{
-    match error {
-        CompileError::Heavy => Unanswered::Heavy,
-        CompileError::Memory => Unanswered::Memory,
-    }
-}
 
 // Puts a line.
 fn say<K: Sink>(line: &[u8], out: &mut K) -> Result<(), Unanswered>
@@ -65,15 +55,11 @@ fn show<K: Sink>(
 ) -> Result<(), Unanswered>
     requires limit { settings.cells ≤ 16777216 }
     requires given { IsGiven settings.base vars (formula_of formula.now) }
-    requires integers { IsOfIntegers vars (formula_of formula.now) }
     ensures answered { Answered settings [] (Show vars (formula_of formula.now)) (K.held out.old) (K.held out.new) (K.faults out.old) (K.faults out.new) result }
     ensures count { K.faults out.old ≤ K.faults out.new }
 {
     let Settings { base, cells } = settings;
-    let canon = match automaton(alloc, Settings { base, cells }, &vars, formula) {
-        Ok(canon) => canon,
-        Err(error) => return Err(unbuilt(error)),
-    };
+    let canon = automaton(alloc, Settings { base, cells }, &vars, formula)?;
     let header = Header::new(base, vars);
     match write_text(&canon, &header, out) {
         Ok(()) => Ok(()),
@@ -81,7 +67,7 @@ fn show<K: Sink>(
     }
 }
 
-/// Keeps a set of integers.
+/// Keeps a set.
 pub(crate) fn keep(
     alloc: Global,
     library: &mut Library,
@@ -90,7 +76,6 @@ pub(crate) fn keep(
     formula: Formula,
 ) -> Result<(), Unanswered>
     requires given { IsGiven library.old.settings.base vars (formula_of formula) }
-    requires integers { IsOfIntegers vars (formula_of formula) }
     requires inside { IsKept (record { name = name; vars = vars; formula = formula_of formula }) }
     requires fresh { kept_place (sets_kept library.old) name ≡ None }
     requires room { length (sets_kept library.old) < sets_limit }
@@ -100,10 +85,7 @@ pub(crate) fn keep(
     ensures answered { KeepsSilent library.old.settings (sets_kept library.old) (Set name vars (formula_of formula)) result }
 {
     let Settings { base, cells } = library.settings();
-    let canon = match automaton(alloc, Settings { base, cells }, &vars, &formula) {
-        Ok(canon) => canon,
-        Err(error) => return Err(unbuilt(error)),
-    };
+    let canon = automaton(alloc, Settings { base, cells }, &vars, &formula)?;
     let header = match vars.copy(alloc) {
         Ok(copy) => Header::new(base, copy),
         Err(_) => return Err(Unanswered::Memory),
@@ -113,8 +95,7 @@ pub(crate) fn keep(
 
 // Writes the text of a kept set's automaton.
 fn print<K: Sink>(library: &Library, at: u32, out: &mut K) -> Result<(), Unanswered>
-    requires place { at < length (sets_kept library.now) }
-    requires integers { AreOfIntegers (sets_kept library.now) }
+    requires { at < length (sets_kept library.now) }
     ensures answered { Answered library.now.settings (sets_kept library.now) (Print at) (K.held out.old) (K.held out.new) (K.faults out.old) (K.faults out.new) result }
     ensures only { IfErr result (λ e. e ≡ Unanswered.Fault) }
     ensures count { K.faults out.old ≤ K.faults out.new }
@@ -148,8 +129,7 @@ fn test<K: Sink>(
     values: &[Ratio],
     out: &mut K,
 ) -> Result<(), Unanswered>
-    requires values { OfKept (sets_kept library.now) at (λ k. FitsVariables k values.now) }
-    requires integers { AreOfIntegers (sets_kept library.now) }
+    requires { OfKept (sets_kept library.now) at (λ k. FitsVariables k values.now) }
     ensures answered { Answered library.now.settings (sets_kept library.now) (Test at values.now) (K.held out.old) (K.held out.new) (K.faults out.old) (K.faults out.new) result }
     ensures count { K.faults out.old ≤ K.faults out.new }
 {
@@ -162,8 +142,7 @@ fn test<K: Sink>(
 
 // Writes whether two kept sets have the same solutions.
 fn compare<K: Sink>(library: &Library, left: u32, right: u32, out: &mut K) -> Result<(), Unanswered>
-    requires sets { OfTwo (sets_kept library.now) left right (λ k l. length k.vars ≡ length l.vars) }
-    requires integers { AreOfIntegers (sets_kept library.now) }
+    requires { OfTwo (sets_kept library.now) left right (λ k l. sorts_of k.vars ≡ sorts_of l.vars) }
     ensures answered { Answered library.now.settings (sets_kept library.now) (Equal left right) (K.held out.old) (K.held out.new) (K.faults out.old) (K.faults out.new) result }
     ensures only { IfErr result (λ e. e ≡ Unanswered.Fault) }
     ensures count { K.faults out.old ≤ K.faults out.new }
@@ -180,8 +159,7 @@ fn include<K: Sink>(
     right: u32,
     out: &mut K,
 ) -> Result<(), Unanswered>
-    requires sets { OfTwo (sets_kept library.now) left right (λ k l. length k.vars ≡ length l.vars) }
-    requires integers { AreOfIntegers (sets_kept library.now) }
+    requires { OfTwo (sets_kept library.now) left right (λ k l. sorts_of k.vars ≡ sorts_of l.vars) }
     ensures answered { Answered library.now.settings (sets_kept library.now) (Subset left right) (K.held out.old) (K.held out.new) (K.faults out.old) (K.faults out.new) result }
     ensures count { K.faults out.old ≤ K.faults out.new }
 {
@@ -206,39 +184,33 @@ fn check<K: Sink>(
 ) -> Result<(), Unanswered>
     requires limit { settings.cells ≤ 16777216 }
     requires given { IsGiven settings.base [] (formula_of formula.now) }
-    requires integers { IsOfIntegers [] (formula_of formula.now) }
     ensures answered { Answered settings [] (Check (formula_of formula.now)) (K.held out.old) (K.held out.new) (K.faults out.old) (K.faults out.new) result }
     ensures count { K.faults out.old ≤ K.faults out.new }
 {
-    let canon = match automaton(alloc, settings, &Vars::new(alloc), formula) {
-        Ok(canon) => canon,
-        Err(error) => return Err(unbuilt(error)),
-    };
+    let canon = automaton(alloc, settings, &Vars::new(alloc), formula)?;
     decide(holds(&canon), b"true\n", b"false\n", out)
 }
 
 /// Answers a statement, where these sets are kept, under the settings of the library: writes its piece to the sink, or keeps its set.
-/// Conditions: its names are right, it passes no limit, and all its variables and those of the kept sets are integers.
+/// As conditions, its names are right and it passes no limit.
 ///
 /// # Errors
-/// `NoPower` where no power of a loop's matrix comes again, and `Closure` where its closure passes a limit, the first in the order of the
-/// variant; `Heavy` where a construction has more cells than the settings allow, and `KeptCells` where the kept sets would have more than
-/// 67,108,864 together; nothing is written then. `Fault` where the sink counted a fault; a part of the piece is written. `Memory` where memory
-/// is wanting, before a byte of the piece is written; `print` and `equal` take none. Each leaves the kept sets as they were.
+/// `NoPower` if no power of a loop's matrix comes again, and `Closure` if its closure passes a limit, the first in the order of the
+/// variant; `Unbuilt` if its formula, or its closure, has a real variable, declared or bound, and binds a variable; `Heavy` if a
+/// construction has more cells than the settings allow, and `KeptCells` if the kept sets would have more than 67,108,864 together;
+/// nothing is written then. `Fault` if the sink counted a fault; a part of the piece is written. `Memory` if the program is out of memory,
+/// before a byte of the piece is written; `print` and `equal` take none. Each leaves the kept sets as they were.
 pub fn answer<K: Sink>(
     alloc: Global,
     library: &mut Library,
     statement: Statement,
     out: &mut K,
 ) -> Result<(), Unanswered>
-    requires fit { IsFit library.old.settings (sets_kept library.old) (asked_of statement) }
-    requires integers { AreOfIntegers (sets_kept library.old) }
-    requires asks { AsksIntegers (asked_of statement) }
+    requires { IsFit library.old.settings (sets_kept library.old) (asked_of statement) }
     ensures answered { Answered library.old.settings (sets_kept library.old) (asked_of statement) (K.held out.old) (K.held out.new) (K.faults out.old) (K.faults out.new) result }
     ensures kept { OnOk result (sets_kept library.new ≡ grown (sets_kept library.old) (asked_of statement)) }
     ensures stays { OnErr result (sets_kept library.new ≡ sets_kept library.old) }
     ensures settings { library.new.settings ≡ library.old.settings }
-    ensures integers { OnOk result (AreOfIntegers (sets_kept library.new)) }
     ensures memory { takes_memory (asked_of statement) ≡ false → IfErr result (λ e. e ≡ Unanswered.Memory → ⊥) }
     ensures count { K.faults out.old ≤ K.faults out.new }
 {

@@ -6,6 +6,9 @@ use thiserror::Error;
 /// Why a statement is not answered.
 #[derive(Debug, Drop, PartialEq, Eq, Error)]
 pub enum Unanswered {
+    /// A real variable is declared or bound, and the formula binds a variable: such sets are not built yet.
+    #[error("the statement is not built yet")]
+    Unbuilt,
     /// A construction has more cells than the limit.
     #[error("a construction has too many cells")]
     Heavy,

@@ -8,11 +8,11 @@ ghost use Rattle.statement_answers.specs.declared.errors.Unanswered.{Unanswered 
 ghost use Rattle.statement_answers.specs.declared.settings.Settings.{Settings};
 
 use matrix_powers::least_powers_are_unique;
-use product_ops::heavy_or_pairs;
+use product_ops::{heavy_or_mixed_pairs, heavy_or_pairs};
 use set_compile::{heavy_or_compiled, tables_are_unique};
 
-/// What can be answered has no cause for a refusal but want of memory and a fault of the sink, what has its piece can be answered, and there is
-/// one cause at the most.
+/// What can be answered is refused only if memory runs out or the sink meets a fault, what has its piece can be answered, and there is one
+/// cause at the most.
 pub fn answers_have_one_cause()
     ensures answered { (settings : Settings) (kept : List KeptSet) (asked : Asked) (u : UnansweredOfModel) → IsAnswerable settings kept asked → IsUnanswered settings kept asked u → ⊥ }
     ensures refused { (settings : Settings) (kept : List KeptSet) (asked : Asked) (u v : UnansweredOfModel) → IsUnanswered settings kept asked u → IsUnanswered settings kept asked v → u ≡ v }
@@ -21,5 +21,6 @@ pub fn answers_have_one_cause()
     heavy_or_compiled();
     tables_are_unique();
     heavy_or_pairs();
+    heavy_or_mixed_pairs();
     least_powers_are_unique();
 }

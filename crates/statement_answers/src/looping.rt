@@ -2,14 +2,11 @@
 
 ghost use Rattle.std.specs.Prelude.{◌≡◌, IfErr, IfOk, OnErr, OnOk};
 ghost use Rattle.formula_core.specs.Shape.{formula_of};
-ghost use Rattle.formula_core.specs.Variables.{sorts_of};
 ghost use Rattle.loop_closure.specs.Bodies.{body_of};
 ghost use Rattle.loop_closure.specs.Closing.{IsBody};
-ghost use Rattle.set_answers.specs.Sorts.{AreIntegers};
-ghost use Rattle.set_compile.specs.Conditions.{BindsIntegers};
 ghost use Rattle.statement_meaning.specs.Asking.{Loop};
 ghost use Rattle.statement_answers.specs.Keeping.{grown, sets_kept};
-ghost use Rattle.statement_answers.specs.Loops.{IsFitLoop, IsPairing, IsUnpaired, pairs_of, unclosed_of};
+ghost use Rattle.statement_answers.specs.Loops.{IsFitLoop, IsPairing, IsUnpaired, unclosed_of};
 ghost use Rattle.statement_answers.specs.Pieces.{KeepsSilent};
 
 use crate::answering::keep;
@@ -64,12 +61,10 @@ pub(crate) fn keep_loop(
     vars: Vars,
     body: LoopBody,
 ) -> Result<(), Unanswered>
-    requires fit { IsFitLoop (sets_kept library.old) name vars (body_of body) }
-    requires integers { AreIntegers (sorts_of vars) }
+    requires { IsFitLoop (sets_kept library.old) name vars (body_of body) }
     ensures kept { OnOk result (sets_kept library.new ≡ grown (sets_kept library.old) (Loop name vars (body_of body))) }
     ensures stays { OnErr result (sets_kept library.new ≡ sets_kept library.old) }
     ensures settings { library.new.settings ≡ library.old.settings }
-    ensures bound { OnOk result (BindsIntegers (pairs_of (body_of body))) }
     ensures answered { KeepsSilent library.old.settings (sets_kept library.old) (Loop name vars (body_of body)) result }
 {
     match pairs(alloc, library.settings(), &body) {

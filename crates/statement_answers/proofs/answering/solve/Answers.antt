@@ -33,8 +33,3 @@ returns-in-Err-Fault-clause-answered g c =
     let is = c.held-held.ensures h.set h.got in
     let w = subst (λ e. Written c.held-held.result.now.header.vars c.held-held.result.now.canon.table (g.K.Sink.held c.args.out.now) (g.K.Sink.held c.write_solution.new.sink) (g.K.Sink.faults c.args.out.now) (g.K.Sink.faults c.write_solution.new.sink) {U = Unit {0}} (Err e)) c.in-Err-Fault.field-0-is c.in-Err-Fault.ensures.solved in
     (w.0, (w.1.0, ((h.set, (h.got, solved_as c.args.library.now.settings h.set c.held-held.result.now.header c.held-held.result.now.canon.table w.1.0 is w.1.1.0)), w.1.1.1)))
-
-pub write_solution-requires-clause-diagram : goal.write_solution-requires-clause-diagram
-write_solution-requires-clause-diagram g c =
-    let h = here (sets_kept c.args.library.now) c.args.at (omega (arith, c.requires, length-map c.args.library.now.definitions set_of)) in
-    (c.held-held.ensures h.set h.got).answer.canonical.diagram

@@ -12,5 +12,5 @@ pub returns-then-fits_letters-clause-pairs : goal.returns-then-fits_letters-clau
 returns-then-fits_letters-clause-pairs c =
     let fits = c.fits_letters.ensures.0 c.if-fits_letters.true in
     let twice : c.side.result * 2 ≡ c.args.body.now.matrix.side + c.args.body.now.matrix.side = omega (arith, c.side.ensures.value) in
-    pairing c.args.settings.base (body_of c.args.body.now) (formula_of c.in-Ok.formula) c.in-Ok.ensures.formula c.in-Ok.ensures.within c.in-Ok.ensures.over c.in-Ok.ensures.ints
+    pairing c.args.settings.base (body_of c.args.body.now) (formula_of c.in-Ok.formula) c.in-Ok.ensures.formula c.in-Ok.ensures.within c.in-Ok.ensures.over
     (subst (λ n. FitsLetters c.args.settings.base (formula_of c.in-Ok.formula) n) twice fits)
