@@ -61,11 +61,10 @@ ending_of number (Left u) = unanswered_ending number u
 abbrev piece_of : List ℕ → List ℕ
 piece_of ahead = take (piece_length ahead) ahead
 
--- every error but want of memory
+-- every error but that of memory
 abbrev is_told : ScriptError → Bool
 is_told reading.Read = true
 is_told (reading.Limit which) = true
-is_told reading.Unbuilt = true
 is_told (reading.Syntax place) = true
 is_told (reading.Name fault place) = true
 is_told reading.Memory = false
@@ -348,7 +347,7 @@ halted settings (Refused number Heavy) before now bytes starts d (n, (is, s)) = 
 halted settings ReadFault before now bytes starts d h = absurd (true≢false (sym d))
 halted settings WriteFault before now bytes starts d h = absurd (true≢false (sym d))
 halted settings NoMemory before now bytes starts d h = absurd (true≢false (sym d))
-halted settings Unbuilt before now bytes starts d (n, s) = unread_halts settings before now bytes n reading.Unbuilt Unbuilt starts refl refl s
+halted settings Unbuilt before now bytes starts d (n, s) = left_halts settings before now bytes n answering.Unbuilt Unbuilt starts refl s
 
 -- one ending
 one_ending : (settings : Settings) → Laws settings → (e f : Ending) (bytes : List ℕ) (before now other after : Outside) → Halts settings bytes before now e → Halts settings bytes other after f → e ≡ f

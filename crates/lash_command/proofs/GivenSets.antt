@@ -1,16 +1,14 @@
--- A set that was read is one that is compiled: its terms are over the declared variables and inside the limits, and
--- the variables, declared and bound, are integers, where those of the kept sets are.
+-- A set that was read is one that is compiled: its terms are over the declared variables and inside the limits, if those of the kept sets are.
 use Rattle.std.proofs.Common.{◌≡◌, ℕ, zero, suc, ◌+◌, ◌≤◌, ◌<◌, List, [], ◌∷◌, length, map, arith, refl, sym, ◌∙◌, subst, Bool, true, false, ◌||◌, cond, nat_eq, nat_lt, Option, None, Some}
-use Rattle.std.specs.List.{AllByRecursion, All}
+use Rattle.std.specs.List.{All}
 use Rattle.std.proofs.lemmas.Bool.{ltb-false, true≢false}
 use Rattle.std.proofs.lemmas.List.{length-append, length-map}
 use Rattle.std.proofs.lemmas.List.Elements.{All-from_recursion}
 use Rattle.std.proofs.lemmas.Bool.{eqb-true}
-use Rattle.lash_model.specs.Formulas.{Sort, Int, Linear, Formula, Atom as CoreAtom, Not as CoreNot, And as CoreAnd, Or as CoreOr, Exists as CoreExists}
+use Rattle.lash_model.specs.Formulas.{Linear, Formula, Not as CoreNot, And as CoreAnd, Or as CoreOr}
 use Rattle.parser_laws.proofs.Parts.{same_some, not_none}
 use Rattle.formula_core.specs.Counts.{nodes_of, depth_of}
 use Rattle.formula_core.specs.FewLetters.{FitsLetters}
-use Rattle.formula_core.specs.Variables.{sorts_of}
 use Rattle.script_grammar.specs.Views.{Relation, AtMost, Below, AtLeast, Above, Equal, Unequal, Quantifier, Exists, Forall}
 use Rattle.script_syntax.specs.Trees.{SignedShape, DeclarationShape, TreeShape, Truth, Compare, Call, Not, And, Or, Implies, Equivalent, Quantified}
 use Rattle.script_names.specs.Kept.{KeptSet, kept_set}
@@ -24,43 +22,28 @@ use Rattle.script_meaning.proofs.Placing.{term_below, difference_below}
 use Rattle.term_substitution.specs.Limits.{nodes_limit, depth_limit, coefficients_pass, constant_passes, some_atom}
 use Rattle.term_substitution.specs.Substitution.{substituted}
 use Rattle.term_substitution.proofs.Reaching.{AreBelow, result_placed}
-use Rattle.script_parse.specs.Plain.{IsPlainTree, IsInt}
-use Rattle.set_compile.specs.Conditions.{IsTermOver, IsOver, BindsIntegers}
-use Rattle.set_answers.specs.Sorts.{AreIntegers}
-use Rattle.statement_answers.specs.Automata.{IsGiven, IsOfIntegers}
+use Rattle.set_compile.specs.Conditions.{IsTermOver, IsOver}
+use Rattle.statement_answers.specs.Automata.{IsGiven}
 use Rattle.statement_answers.proofs.Conditions.{compiled_over, substituted_over, passed_over}
 
--- the kept sets are over their variables and bind integers
-pub record IsFine (k : KeptSet) : Type 0 where
-  pub over : IsOver (length k.vars) k.formula
-  pub bound : BindsIntegers k.formula
-
--- substitution binds what was bound
-substituted_bound : (f : Formula) (terms : List Linear) (places : ℕ) → BindsIntegers f → BindsIntegers (substituted f terms places)
-substituted_bound (CoreAtom kind a) terms places h = tt
-substituted_bound (CoreNot f) terms places h = substituted_bound f terms places h
-substituted_bound (CoreAnd f g) terms places h = (substituted_bound f terms places h.0, substituted_bound g terms places h.1)
-substituted_bound (CoreOr f g) terms places h = (substituted_bound f terms places h.0, substituted_bound g terms places h.1)
-substituted_bound (CoreExists s f) terms places h = (h.0, substituted_bound f terms places h.1)
+-- a kept set is over its variables
+abbrev pub IsFine : KeptSet → Type 0
+IsFine k = IsOver (length k.vars) k.formula
 
 -- a kept set that is called
-record IsCallee (o : Option Formula) (count : ℕ) : Type 0 where
-  over : (f : Formula) → o ≡ Some f → IsOver count f
-  bound : (f : Formula) → o ≡ Some f → BindsIntegers f
+abbrev IsCallee : Option Formula → ℕ → Type 0
+IsCallee o count = (f : Formula) → o ≡ Some f → IsOver count f
 
 same_formula : {f g : Formula} → Some f ≡ Some g → f ≡ g
 same_formula {f} {g} e = same_some f g e
 
 callee_fine : (o : Option KeptSet) (count : ℕ) → ((k : KeptSet) → o ≡ Some k → IsFine k) → IsCallee (callee o count) count
-callee_fine None count fine = record { over = λ f e. absurd (not_none f e); bound = λ f e. absurd (not_none f e) }
+callee_fine None count fine = λ f e. absurd (not_none f e)
 callee_fine (Some k) count fine = by (nat_eq count (length k.vars)) refl
   where
     by : (b : Bool) → nat_eq count (length k.vars) ≡ b → IsCallee (cond b (Some k.formula) None) count
-    by true q = record {
-      over = λ f e. subst (λ g. IsOver count g) (same_formula e) (subst (λ n. IsOver n k.formula) (sym (eqb-true count (length k.vars) q)) (fine k refl).over);
-      bound = λ f e. subst BindsIntegers (same_formula e) (fine k refl).bound;
-    }
-    by false q = record { over = λ f e. absurd (not_none f e); bound = λ f e. absurd (not_none f e) }
+    by true q = λ f e. subst (λ g. IsOver count g) (same_formula e) (subst (λ n. IsOver n k.formula) (sym (eqb-true count (length k.vars) q)) (fine k refl))
+    by false q = λ f e. absurd (not_none f e)
 
 -- the terms of arguments are over the scope
 arguments_below : (scope : Scope) (ts : List (List SignedShape)) → All (λ t. All (λ s. s.0 < length scope) t.terms) (map (argument scope) ts)
@@ -80,11 +63,10 @@ truth_over m b few small = atom_over m _ tt few small
 
 called_over : (o : Option Formula) (scope : Scope) (ts : List (List SignedShape)) → IsCallee o (length ts) → some_atom coefficients_pass (called o scope ts) ≡ false → some_atom constant_passes (called o scope ts) ≡ false → IsOver (length scope) (called o scope ts)
 called_over None scope ts h few small = truth_over (length scope) false few small
-called_over (Some f) scope ts h few small = compiled_over (length scope) (substituted f (map (argument scope) ts) (length scope)) (result_placed f (map (argument scope) ts) (length scope) (arguments_below scope ts) (substituted_over _ f (subst (λ n. IsOver n f) (sym (length-map ts (argument scope))) (h.over f refl))) few small)
-
-called_bound : (o : Option Formula) (scope : Scope) (ts : List (List SignedShape)) → IsCallee o (length ts) → BindsIntegers (called o scope ts)
-called_bound None scope ts h = tt
-called_bound (Some f) scope ts h = substituted_bound f (map (argument scope) ts) (length scope) (h.bound f refl)
+called_over (Some f) scope ts h few small =
+    compiled_over (length scope) (substituted f (map (argument scope) ts) (length scope))
+    (result_placed f (map (argument scope) ts) (length scope) (arguments_below scope ts)
+    (substituted_over _ f (subst (λ n. IsOver n f) (sym (length-map ts (argument scope))) (h f refl))) few small)
 
 -- whatever the name, the set that is kept is fine
 abbrev pub AreFine : List KeptSet → Type 0
@@ -186,46 +168,6 @@ within_none full base places tree f h = none_passed full tree f h.none
 pub given_over : (kept : List KeptSet) → AreFine kept → (full : Bool) (base places : ℕ) (ds : List DeclarationShape) (f : TreeShape) → IsWithin full base places f (core kept (with_declared [] ds) f) → IsOver (length ds) (core kept (with_declared [] ds) f)
 given_over kept fine full base places ds f h = subst (λ m. IsOver m (core kept (with_declared [] ds) f)) (length-map ds variable_of) (core_within kept fine (with_declared [] ds) f (within_none full base places f (core kept (with_declared [] ds) f) h).atoms)
 
-compared_bound : (scope : Scope) (a : List SignedShape) (r : Relation) (b : List SignedShape) → BindsIntegers (compared scope a r b)
-compared_bound scope a AtMost b = tt
-compared_bound scope a AtLeast b = tt
-compared_bound scope a Below b = tt
-compared_bound scope a Above b = tt
-compared_bound scope a Equal b = tt
-compared_bound scope a Unequal b = tt
-
--- what holds of a formula holds of it with integers bound, where negation and binding an integer keep it
-pub bound_keeps : (P : Formula → Type 0) → ((f : Formula) → P f → P (CoreNot f)) → ((f : Formula) → P f → P (CoreExists Int f)) → (q : Quantifier) (ds : List DeclarationShape) (f : Formula) → AllByRecursion IsInt ds → P f → P (bound_all q ds f)
-bound_keeps P turn bind q [] f h p = p
-bound_keeps P turn bind Exists (d ∷ ds) f h p = subst (λ s. P (CoreExists s (bound_all Exists ds f))) (sym h.0) (bind (bound_all Exists ds f) (bound_keeps P turn bind Exists ds f h.1 p))
-bound_keeps P turn bind Forall (d ∷ ds) f h p = subst (λ s. P (CoreNot (CoreExists s (CoreNot (bound_all Forall ds f))))) (sym h.0)
-    (turn (CoreExists Int (CoreNot (bound_all Forall ds f))) (bind (CoreNot (bound_all Forall ds f)) (turn (bound_all Forall ds f) (bound_keeps P turn bind Forall ds f h.1 p))))
-
-pub core_bound : (kept : List KeptSet) → AreFine kept → (scope : Scope) (f : TreeShape) → IsPlainTree f → BindsIntegers (core kept scope f)
-core_bound kept fine scope (Truth b) h = tt
-core_bound kept fine scope (Compare a r b) h = compared_bound scope a r b
-core_bound kept fine scope (Call name ts) h = called_bound (callee (kept_set kept name.left) (length ts)) scope ts (callee_fine (kept_set kept name.left) (length ts) (fine name.left))
-core_bound kept fine scope (Not f) h = core_bound kept fine scope f h
-core_bound kept fine scope (And f g) h = (core_bound kept fine scope f h.0, core_bound kept fine scope g h.1)
-core_bound kept fine scope (Or f g) h = (core_bound kept fine scope f h.0, core_bound kept fine scope g h.1)
-core_bound kept fine scope (Implies f g) h = (core_bound kept fine scope f h.0, core_bound kept fine scope g h.1)
-core_bound kept fine scope (Equivalent f g) h =
-    let left = core_bound kept fine scope f h.0 in
-    let right = core_bound kept fine scope g h.1 in
-    ((left, right), (right, left))
-core_bound kept fine scope (Quantified q ds f) h = bound_keeps BindsIntegers (λ f k. k) (λ f k. (refl, k)) q ds (core kept (with_declared scope ds) f) h.0 (core_bound kept fine (with_declared scope ds) f h.1)
-
-pub variables_int : (ds : List DeclarationShape) → AllByRecursion IsInt ds → AllByRecursion (λ v. v.1 ≡ Int) (map variable_of ds)
-variables_int [] h = tt
-variables_int (d ∷ ds) h = (h.0, variables_int ds h.1)
-
-of_variables : (vs : List (List ℕ × Sort)) → AllByRecursion (λ v. v.1 ≡ Int) vs → AllByRecursion (λ s. s ≡ Int) (sorts_of vs)
-of_variables [] h = tt
-of_variables (v ∷ vs) h = (h.0, of_variables vs h.1)
-
-pub are_integers : (vs : List (List ℕ × Sort)) → AllByRecursion (λ v. v.1 ≡ Int) vs → AreIntegers (sorts_of vs)
-are_integers vs h = All-from_recursion (λ s. s ≡ Int) (sorts_of vs) (of_variables vs h)
-
 -- what the reader gives is what is compiled
 pub given_set : (base : ℕ) (kept : List KeptSet) → AreFine kept → (full : Bool) (ds : List DeclarationShape) (f : TreeShape) → IsWithin full base (length ds) f (core kept (with_declared [] ds) f) → IsGiven base (with_declared [] ds) (core kept (with_declared [] ds) f)
 given_set base kept fine full ds f within =
@@ -234,7 +176,3 @@ given_set base kept fine full ds f within =
       over = subst (λ n. IsOver n (core kept (with_declared [] ds) f)) (sym many) (given_over kept fine full base (length ds) ds f within);
       letters = subst (λ n. FitsLetters base (core kept (with_declared [] ds) f) n) (sym many) within.letters;
     }
-
--- its variables are integers
-pub set_of_integers : (kept : List KeptSet) → AreFine kept → (ds : List DeclarationShape) (f : TreeShape) → AllByRecursion IsInt ds → IsPlainTree f → IsOfIntegers (with_declared [] ds) (core kept (with_declared [] ds) f)
-set_of_integers kept fine ds f ints plain = record { sorts = are_integers (with_declared [] ds) (variables_int ds ints); bound = core_bound kept fine (with_declared [] ds) f plain }

@@ -1,4 +1,4 @@
--- A loop that was read is one that is kept: its body is inside the limits, and its variables are integers.
+-- A loop that was read is one that is kept: its body is inside the limits.
 use Rattle.std.proofs.Common.{◌≡◌, ℕ, zero, suc, ◌+◌, ◌≤◌, ◌<◌, ◌^◌, List, [], ◌∷◌, ◌++◌, length, map, arith, refl, sym, ap, ◌∙◌, subst, Bool, true, false, cond, nat_lt, Option, None, Some}
 use Rattle.std.specs.List.{AllByRecursion}
 use Rattle.std.specs.Prelude.{◌↔◌, ℤ, unsigned_abs}
@@ -8,9 +8,7 @@ use Rattle.std.proofs.lemmas.List.Elements.{All-from_recursion}
 use Rattle.parser_laws.proofs.Parts.{not_none}
 use Rattle.integer_laws.specs.Vectors.{vector_from}
 use Rattle.integer_laws.proofs.Entries.{length-vector_from}
-use Rattle.lash_model.specs.Formulas.{Sort, Int}
 use Rattle.lash_model.specs.Meaning.{holds}
-use Rattle.formula_core.specs.Variables.{sorts_of}
 use Rattle.script_grammar.specs.Statements.{Bound, AtMost, Below, AtLeast, Above, Equal}
 use Rattle.script_syntax.specs.Trees.{Named, SignedShape, DeclarationShape, TreeShape, And}
 use Rattle.script_statements.specs.Loops.{ConstraintShape, AssignmentShape}
@@ -22,7 +20,6 @@ use Rattle.script_meaning.specs.Core.{core, compared, constant_of}
 use Rattle.script_meaning.specs.Resolving.{first_passed}
 use Rattle.script_meaning.specs.declared.limits.Which.{Which}
 use Rattle.script_meaning.specs.declared.limits.Which.TheVariants.{Literal, LoopVariables, Constant}
-use Rattle.script_parse.specs.Plain.{IsInt}
 use Rattle.matrix_powers.specs.Orbits.{IsShift}
 use Rattle.matrix_powers.specs.Powers.{IsPower}
 use Rattle.loop_laws.specs.Turns.{Body, IsMember, IsGuard, after}
@@ -31,10 +28,9 @@ use Rattle.loop_meaning.specs.Guards.{relation_of_bound, constraint_tree, joined
 use Rattle.loop_meaning.specs.Assigning.{is_place, assigned_to, becomes, next_term, next_shift, shift_passes}
 use Rattle.loop_meaning.specs.Looping.{scope_of, guard_of, loop_literal, loop_variables_limit, loop_passed, shift_limit, loop_body, primed, loop_variables}
 use Rattle.statement_meaning.specs.Judging.{is_full}
-use Rattle.set_answers.specs.Sorts.{AreIntegers}
 use Rattle.statement_answers.specs.Loops.{HasPairs, IsFitLoop, pairs_of}
 use Rattle.statement_answers.proofs.Conditions.{substituted_over, passed_over}
-use Rattle.lash_command.proofs.GivenSets.{left_false, right_false, AreFine, core_within, none_passed, variables_int, are_integers}
+use Rattle.lash_command.proofs.GivenSets.{left_false, right_false, AreFine, core_within, none_passed}
 
 -- a comparison of a guard is none of unequal values
 compared_member : (scope : Scope) (a : List SignedShape) (r : Bound) (b : List SignedShape) → IsMember (compared scope a (relation_of_bound r) b) × IsGuard (compared scope a (relation_of_bound r) b)
@@ -71,22 +67,6 @@ shift_is_small scope xs e = record {
   whole = length-vector_from (λ row. (next_term scope xs row).constant) 0 (length scope);
   small = All-from_recursion (λ b. unsigned_abs b ≤ 2 ^ 40) (next_shift scope xs) (all_vector (λ b. unsigned_abs b ≤ 2 ^ 40) (λ row. (next_term scope xs row).constant) 0 (length scope) (λ row. small_next scope xs row e));
 }
-
--- variables that are integers
-abbrev VariablesAreIntegers : List (List ℕ × Sort) → Type 0
-VariablesAreIntegers vs = AllByRecursion (λ v. v.1 ≡ Int) vs
-
-primed_integers : (vs : List (List ℕ × Sort)) → VariablesAreIntegers vs → VariablesAreIntegers (map primed vs)
-primed_integers [] h = tt
-primed_integers (v ∷ vs) h = (h.0, primed_integers vs h.1)
-
-both_integers : (vs ws : List (List ℕ × Sort)) → VariablesAreIntegers vs → VariablesAreIntegers ws → VariablesAreIntegers (vs ++ ws)
-both_integers [] ws h i = i
-both_integers (v ∷ vs) ws h i = (h.0, both_integers vs ws h.1 i)
-
--- the variables of a loop are integers where the declared ones are
-pub loop_of_integers : (vars : List DeclarationShape) → AllByRecursion IsInt vars → AreIntegers (sorts_of (loop_variables vars))
-loop_of_integers vars plain = are_integers (loop_variables vars) (both_integers (scope_of vars) (map primed (scope_of vars)) (variables_int vars plain) (primed_integers (scope_of vars) (variables_int vars plain)))
 
 -- no limit of two is passed
 first_none : (x y : Option Which) → or_else x y ≡ None → x ≡ None

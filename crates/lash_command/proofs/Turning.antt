@@ -14,7 +14,7 @@ use Rattle.statement_meaning.specs.Judging.{IsJudged, IsStatementWithin}
 use Rattle.statement_meaning.specs.declared.statement.Statement.{Statement}
 use Rattle.statement_answers.specs.Keeping.{grown}
 use Rattle.statement_answers.specs.declared.settings.Settings.{Settings}
-use Rattle.statement_answers.specs.Pieces.{IsPieceOf, IsHeavyAsked, IsTooMuch, IsPowerless, IsPassedByClosure, Answered}
+use Rattle.statement_answers.specs.Pieces.{IsPieceOf, IsUnbuilt, IsHeavyAsked, IsTooMuch, IsPowerless, IsPassedByClosure, Answered}
 use Rattle.statement_answers.specs.declared.errors.Unanswered.{Unanswered}
 use Rattle.statement_answers.specs.declared.errors.Unanswered.TheVariants as answering
 use Rattle.script_parse.specs.Answers.{OfStatement, IsNext, IsFinished, IsStopped, IsCause, Says}
@@ -84,6 +84,9 @@ stops_at_it settings base kept p q before now left held faults write_faults n s 
 
 -- a statement was not answered
 pub unanswered_ends : (settings : Settings) (base : ℕ) (kept : List KeptSet) (p q : Progress) (before now : Outside) (left held : Option (List ℕ)) (faults write_faults n : ℕ) (s : Statement) (U : Type 0) (cause : Unanswered) → Reads settings base kept p q before now faults n → IsNext base kept p q now.left left s → now.write_faults ≤ write_faults → Answered settings kept (asked_of s) now.held held now.write_faults write_faults {U = U} (Err cause) → Ends settings (unanswered_ending (n + 1) cause) before (record { left = left; read_faults = faults; held = held; write_faults = write_faults })
+unanswered_ends settings base kept p q before now left held faults write_faults n s U answering.Unbuilt r h rose shown =
+    let stops = stops_at_it settings base kept p q before now left held faults write_faults n s (IsUnbuilt settings) r h rose shown.0 shown.1 in
+    (stops.0, stops.1.1)
 unanswered_ends settings base kept p q before now left held faults write_faults n s U answering.Heavy r h rose shown = stops_at_it settings base kept p q before now left held faults write_faults n s (IsHeavyAsked settings) r h rose shown.0 shown.1
 unanswered_ends settings base kept p q before now left held faults write_faults n s U answering.NoPower r h rose shown = stops_at_it settings base kept p q before now left held faults write_faults n s IsPowerless r h rose shown.0 shown.1
 unanswered_ends settings base kept p q before now left held faults write_faults n s U (answering.Closure which) r h rose shown = inr (inr (stops_at_it settings base kept p q before now left held faults write_faults n s (IsPassedByClosure settings which) r h rose shown.0 shown.1))
@@ -134,7 +137,6 @@ unread_ends settings base kept p q before now left faults n reading.Read r h = (
   },
 )
 unread_ends settings base kept p q before now left faults n (reading.Limit which) r h = inl (n, (refl, record { kept = kept; progress = q; come = stopped settings base kept p q before now left faults n (reading.Limit which) r h; is = subst (λ b. IsCause b kept q left now.read_faults faults (reading.Limit which)) r.same h.cause }))
-unread_ends settings base kept p q before now left faults n reading.Unbuilt r h = (n, record { kept = kept; progress = q; come = stopped settings base kept p q before now left faults n reading.Unbuilt r h; is = subst (λ b. IsCause b kept q left now.read_faults faults reading.Unbuilt) r.same h.cause })
 unread_ends settings base kept p q before now left faults n (reading.Syntax place) r h = (n, (refl, record { kept = kept; progress = q; come = stopped settings base kept p q before now left faults n (reading.Syntax place) r h; is = subst (λ b. IsCause b kept q left now.read_faults faults (reading.Syntax place)) r.same h.cause }))
 unread_ends settings base kept p q before now left faults n (reading.Name fault place) r h = (n, (refl, record { kept = kept; progress = q; come = stopped settings base kept p q before now left faults n (reading.Name fault place) r h; is = subst (λ b. IsCause b kept q left now.read_faults faults (reading.Name fault place)) r.same h.cause }))
 unread_ends settings base kept p q before now left faults n reading.Memory r h = (n, record { kept = kept; progress = q; come = stopped settings base kept p q before now left faults n reading.Memory r h; is = tt })

@@ -16,7 +16,7 @@ use Rattle.statement_meaning.specs.Asking as meaning
 use Rattle.statement_meaning.specs.Asking.{Asked}
 use Rattle.statement_meaning.specs.Judging.{statement_fault, IsStatementWithin}
 use Rattle.statement_answers.specs.Keeping.{grown}
-use Rattle.statement_answers.specs.Pieces.{IsPieceOf, IsHeavyAsked, IsTooMuch, IsPowerless, IsPassedByClosure}
+use Rattle.statement_answers.specs.Pieces.{IsPieceOf, IsUnbuilt, IsHeavyAsked, IsTooMuch, IsPowerless, IsPassedByClosure}
 use Rattle.statement_answers.specs.declared.settings.Settings.{Settings}
 use Rattle.statement_answers.specs.declared.errors.Unanswered.{Unanswered}
 use Rattle.statement_answers.specs.declared.errors.Unanswered.TheVariants as answering
@@ -160,7 +160,7 @@ Ends settings (Refused number Heavy) before now = StopsAt settings before now nu
 Ends settings ReadFault before now = StopsSomewhere settings before now (IsUnread settings before now reading.Read)
 Ends settings WriteFault before now = IsCutShort settings before now
 Ends settings NoMemory before now = StopsSomewhere settings before now (λ _ _. Unit)
-Ends settings Unbuilt before now = StopsSomewhere settings before now (IsUnread settings before now reading.Unbuilt)
+Ends settings Unbuilt before now = StopsSomewhere settings before now (IsNextAsked settings (IsUnbuilt settings))
 
 -- where there are words nothing is taken
 abbrev pub Explains : Settings → Ending → ℕ → Outside → Outside → Type 0
@@ -182,13 +182,13 @@ Turns settings before now kept progress answered (Err e) = Ends settings e befor
 abbrev pub unread_ending : ℕ → ScriptError → Ending
 unread_ending number reading.Read = ReadFault
 unread_ending number (reading.Limit which) = Refused number (Limit which)
-unread_ending number reading.Unbuilt = Unbuilt
 unread_ending number (reading.Syntax place) = Refused number (Syntax place)
 unread_ending number (reading.Name fault place) = Refused number (Name fault place)
 unread_ending number reading.Memory = NoMemory
 
 -- how it ends where the statement of the number is not answered
 abbrev pub unanswered_ending : ℕ → Unanswered → Ending
+unanswered_ending number answering.Unbuilt = Unbuilt
 unanswered_ending number answering.Heavy = Refused number Heavy
 unanswered_ending number answering.NoPower = Refused number NoPower
 unanswered_ending number (answering.Closure which) = Refused number (Limit which)

@@ -34,7 +34,7 @@ pub enum Ending {
     ReadFault,
     WriteFault,
     NoMemory,
-    /// There are words, or a statement has a token of what is not built yet.
+    /// There are words, or a statement has a real variable and binds a variable: neither is built yet.
     Unbuilt,
 }
 

@@ -1,14 +1,13 @@
 //! A session: the statements of a script are answered in their order, until the script is at its end or one is refused. Own.
 
 ghost use Rattle.std.specs.Prelude.{◌≡◌, ◌≤◌, ◌<◌, true, IfOk};
-ghost use Rattle.statement_answers.specs.Automata.{AreOfIntegers};
 ghost use Rattle.statement_answers.specs.Keeping.{sets_kept};
 ghost use Rattle.lash_command.specs.Answers.{Outside, HasCome, Ends, Turns, unread_ending, unanswered_ending};
 
 use crate::ending::{Ending, Refusal};
 use lash_io::{Memory, Sink, Source};
 use script_meaning::Which;
-use script_parse::{ScriptError, Statements, built_statements_are_plain};
+use script_parse::{ScriptError, Statements};
 use statement_answers::{Library, Settings, Unanswered, answer};
 use std::alloc::Global;
 
@@ -18,7 +17,6 @@ fn unread(statement: u64, error: ScriptError) -> Ending
 {
     let refusal = match error {
         ScriptError::Read => return Ending::ReadFault,
-        ScriptError::Unbuilt => return Ending::Unbuilt,
         ScriptError::Memory => return Ending::NoMemory,
         ScriptError::Limit { which } => Refusal::Limit { which },
         ScriptError::Syntax { place } => Refusal::Syntax { place },
@@ -32,6 +30,7 @@ fn unanswered(statement: u64, cause: Unanswered) -> Ending
     ensures { result ≡ unanswered_ending statement cause }
 {
     let refusal = match cause {
+        Unanswered::Unbuilt => return Ending::Unbuilt,
         Unanswered::Heavy => Refusal::Heavy,
         Unanswered::NoPower => Refusal::NoPower,
         Unanswered::Closure { which } => Refusal::Limit { which },
@@ -54,18 +53,15 @@ fn turn<S: Source, K: Sink>(
     out: &mut K,
 ) -> Result<(), Ending>
     requires base { statements.old.base ≡ library.old.settings.base }
-    requires integers { AreOfIntegers (sets_kept library.old) }
     requires live { statements.old.live ≡ true }
     requires few { answered ≤ 16777216 }
     ensures base { statements.new.base ≡ statements.old.base }
     ensures settings { library.new.settings ≡ library.old.settings }
-    ensures integers { IfOk result (λ _. AreOfIntegers (sets_kept library.new)) }
     ensures live { IfOk result (λ _. statements.new.live ≡ true) }
     ensures grown { IfOk result (λ _. statements.old.progress.given < statements.new.progress.given) }
     ensures within { IfOk result (λ _. statements.new.progress.given ≤ 16777216) }
     ensures comes { (before : Outside) → HasCome library.old.settings before (record { left = S.left input.old; read_faults = S.faults input.old; held = K.held out.old; write_faults = K.faults out.old }) (sets_kept library.old) statements.old.progress answered → Turns library.old.settings before (record { left = S.left input.new; read_faults = S.faults input.new; held = K.held out.new; write_faults = K.faults out.new }) (sets_kept library.new) statements.new.progress answered result }
 {
-    built_statements_are_plain();
     match statements.next(alloc, library.defs(), input) {
         Ok(Some(statement)) => match answer(alloc, library, statement, out) {
             Ok(()) => Ok(()),

@@ -15,6 +15,15 @@ const SESSION: &[u8] =
 const SESSION_ANSWERS: &[u8] =
     b"no\nyes\nlash 1\nbase 2\nvars x int\nint 4\nroots 0 1\n0 - 0 2\n1 - 1 1\n2 - 3 3\n3 + 3 3\nend\nsolution\nx 2 0:10\nout\ntrue\n";
 
+const REAL_UP_TO_THREE: &[u8] =
+    b"lash 1\nbase 2\nvars x real\nint 6\nfrac 3\nroots 0 1\n0 0 0 2\n1 0 1 1\n2 0 3 4\n3 0 5 5\n4 1 5 5\n5 2 5 5\n0 + 0 0\n1 + 1 2\n2 - 2 2\nend\n";
+
+const REAL_SESSION: &[u8] =
+    b"set A (x real) = 3*x >= 1 and x <= 2;\ntest A (1/3);\ntest A (1/4);\nset B (x real) = 3*x > 1 and x <= 2;\nequal A B;\nsubset B A;\nsubset A B;\nsolve A;\nprint B;\n";
+
+const REAL_ANSWERS: &[u8] =
+    b"in\nout\nno\nyes\nno\nsolution\nx 1/3 0:.(01)\nlash 1\nbase 2\nvars x real\nint 4\nfrac 5\nroots 0 1\n0 0 0 2\n1 1 1 1\n2 2 3 1\n3 3 1 1\n0 - 4 2\n1 - 1 1\n2 + 2 2\n3 + 3 1\n4 - 1 0\nend\n";
+
 /// Bytes that come in pieces of five, from a source whose stated calls fail.
 fn source(alloc: Global, script: &[u8], fails: &[u64]) -> Result<MemSource, AllocError> {
     let bytes = Vec::from_slice(alloc, script)?;
@@ -87,15 +96,91 @@ fn refuses_wrong_statements(rt: HostRuntime) -> Result<(), Fail> {
             repeated
         )?
     );
+    Ok(())
+}
+
+/// A formula with a real variable, declared or bound, that binds a variable is not built; the statements before it are answered.
+#[test]
+fn binds_nothing_with_reals(rt: HostRuntime) -> Result<(), Fail> {
+    let line = b"lash: unbuilt\n";
+    let declared = b"check true;\nshow (x real): exists y int: 2*y <= x;\n";
+    assert!(rt; ends(rt.alloc(), declared, 9, b"true\n", line)?);
+    let bound = b"show (x int): exists y real: x <= y;";
+    assert!(rt; ends(rt.alloc(), bound, 9, b"", line)?);
+    assert!(rt; ends(rt.alloc(), b"check exists x real: x = 1;", 9, b"", line)?);
+    Ok(())
+}
+
+#[test]
+fn names_and_limits_come_before_unbuilt(rt: HostRuntime) -> Result<(), Fail> {
+    let unknown = b"lash: statement 1: unknown name at byte 29\n";
     assert!(rt;
         ends(
             rt.alloc(),
-            b"check exists x real: x = 1;",
-            9,
+            b"show (x real): exists y int: z <= y;",
+            2,
             b"",
-            b"lash: unbuilt\n"
+            unknown
         )?
     );
+    let script =
+        b"show (a real, b int, c int, d int, e int, f int, g int, h int, i int, j int, k int, l int, m int): exists n int: true;";
+    let letters = b"lash: statement 1: limit letters\n";
+    assert!(rt; ends(rt.alloc(), script, 3, b"", letters)?);
+    Ok(())
+}
+
+/// The pairs of a loop bind the number of iterations. Its power and the limits of its closure come first.
+#[test]
+fn keeps_no_loops_of_reals(rt: HostRuntime) -> Result<(), Fail> {
+    let script = b"loop L (x real) when x <= 10 do x := x + 1;";
+    assert!(rt; ends(rt.alloc(), script, 9, b"", b"lash: unbuilt\n")?);
+    let doubles = b"loop D (x real) when x <= 9 do x := 2*x;";
+    assert!(rt;
+        ends(
+            rt.alloc(),
+            doubles,
+            4,
+            b"",
+            b"lash: statement 1: no power\n"
+        )?
+    );
+    let far = b"loop D (x real) when x <= 9 do x := x + 1099511627776;";
+    assert!(rt;
+        ends(
+            rt.alloc(),
+            far,
+            3,
+            b"",
+            b"lash: statement 1: limit coefficient\n"
+        )?
+    );
+    Ok(())
+}
+
+#[test]
+fn shows_the_reals_up_to_three(rt: HostRuntime) -> Result<(), Fail> {
+    let script = b"show (x real): x <= 3;";
+    assert!(rt; ends(rt.alloc(), script, 0, REAL_UP_TO_THREE, b"")?);
+    Ok(())
+}
+
+/// Sets of reals are tested, compared, solved and printed.
+#[test]
+fn answers_a_session_of_reals(rt: HostRuntime) -> Result<(), Fail> {
+    assert!(rt; ends(rt.alloc(), REAL_SESSION, 0, REAL_ANSWERS, b"")?);
+    Ok(())
+}
+
+/// Sets over other sorts are not compared, and the values of a test have a common denominator of at most 65,536.
+#[test]
+fn refuses_other_sorts_and_fine_values(rt: HostRuntime) -> Result<(), Fail> {
+    let sorts = b"set A (x real) = x <= 1; set B (x int) = x <= 1; equal A B;";
+    let misused = b"lash: statement 3: misused name at byte 57\n";
+    assert!(rt; ends(rt.alloc(), sorts, 2, b"", misused)?);
+    let fine = b"set A (x real) = x <= 1; test A (1/3); test A (1/65537);";
+    let denominator = b"lash: statement 3: limit denominator\n";
+    assert!(rt; ends(rt.alloc(), fine, 3, b"in\n", denominator)?);
     Ok(())
 }
 

@@ -1,6 +1,5 @@
 use Rattle.std.proofs.Common.{arith, sym, ap, subst, []}
 use Rattle.script_parse.specs.Answers.{State}
-use Rattle.statement_answers.specs.Automata.{AreOfIntegers}
 use Rattle.statement_answers.specs.Keeping.{Library, sets_kept}
 use Rattle.lash_command.specs.Answers.{Outside, HasCome}
 use Rattle.lash_command.proofs.Coming.{come_none}
@@ -15,7 +14,6 @@ statements-init g c =
     record {
       base = ap (λ (s : State). s.base) c.in-Ok.ensures;
       settings = ap (λ (l : Library). l.settings) c.new-library.ensures;
-      integers = subst (λ (l : Library). AreOfIntegers (sets_kept l)) (sym c.new-library.ensures) (λ i k lt. absurd (omega (arith, lt)));
       live = ap (λ (s : State). s.live) c.in-Ok.ensures;
       few = omega arith;
       within = omega (arith, ap (λ (s : State). s.progress.given) c.in-Ok.ensures);

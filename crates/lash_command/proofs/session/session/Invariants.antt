@@ -1,5 +1,4 @@
 use Rattle.std.proofs.Common.{◌≡◌, ◌≤◌, ◌-◌, true}
-use Rattle.statement_answers.specs.Automata.{AreOfIntegers}
 use Rattle.statement_answers.specs.Keeping.{sets_kept}
 use Rattle.lash_command.specs.Answers.{HasCome}
 use Rattle.lash_command.proofs.session.session.Given as goal
@@ -8,7 +7,6 @@ abbrev pub invariant-statements : goal.invariant-statements
 invariant-statements g l = record {
   base : l.statements.base ≡ l.fn.settings.base;
   settings : l.library.settings ≡ l.fn.settings;
-  integers : AreOfIntegers (sets_kept l.library);
   live : l.statements.live ≡ true;
   few : l.answered ≤ l.statements.progress.given;
   within : l.statements.progress.given ≤ 16777216;

@@ -7,7 +7,7 @@ use Rattle.script_parse.specs.Answers.{Says}
 use Rattle.lash_command.specs.Answers.{HasCome, Ends}
 use Rattle.lash_command.proofs.Coming.{come_taken}
 use Rattle.lash_command.proofs.Turning.{next_of, finished_of, turned, unanswered_ends, unread_ends}
-use Rattle.lash_command.proofs.Fitting.{fits_next, asks_next}
+use Rattle.lash_command.proofs.Fitting.{fits_next}
 use Rattle.lash_command.specs.declared.ending.Ending.{Ending}
 use Rattle.lash_command.proofs.session.turn.Goals as goal
 
@@ -16,11 +16,7 @@ answer-requires g c =
     let kept = sets_kept c.args.library.now in
     let says = subst (λ (ds : List (List ℕ × Definition)). Says c.args.statements.now.base (sets_of ds) c.args.statements.now.progress c.next.new.self.progress (g.S.Source.left c.args.input.now) (g.S.Source.left c.next.new.source) (g.S.Source.faults c.args.input.now) (g.S.Source.faults c.next.new.source) (Ok c.in-Ok-Some.field-0)) c.defs.ensures.defs c.in-Ok-Some.ensures.says in
     let next = next_of _ kept _ _ _ _ (g.S.Source.faults c.args.input.now) (g.S.Source.faults c.next.new.source) c.in-Ok-Some.field-0 c.in-Ok-Some.statement c.in-Ok-Some.field-0-is says in
-    record {
-      fit = fits_next c.args.library.now.settings _ kept _ _ _ _ c.in-Ok-Some.statement c.requires.base c.defs.ensures.base c.defs.ensures.given c.requires.integers c.built_statements_are_plain.ensures next;
-      integers = c.requires.integers;
-      asks = asks_next c.args.library.now.settings _ kept _ _ _ _ c.in-Ok-Some.statement c.defs.ensures.given c.requires.integers c.built_statements_are_plain.ensures next;
-    }
+    fits_next c.args.library.now.settings _ kept _ _ _ _ c.in-Ok-Some.statement c.requires.base c.defs.ensures.base c.defs.ensures.given next
 
 pub returns-in-Ok-clause-comes : goal.returns-in-Ok-clause-comes
 returns-in-Ok-clause-comes g c = λ before come.
