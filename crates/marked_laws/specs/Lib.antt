@@ -1,0 +1,2 @@
+pub mod Weakening
+pub mod TornTables
