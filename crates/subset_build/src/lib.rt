@@ -13,8 +13,8 @@ mod subsets;
 
 pub use closure::sign_closure;
 pub use laws::{heavy_or_subsets, start_sets_are_unique};
-pub use projection::project_int;
-pub use set_steps::SetSteps;
+pub use projection::{explored_subsets, project_int};
+pub use set_steps::{SetSteps, put_in_order};
 pub use start_sets::StartSets;
 
 #[cfg(test)]

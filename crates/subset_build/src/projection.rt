@@ -17,8 +17,11 @@ use packed_cells::{Cells, Plain};
 use std::alloc::Global;
 use step_tables::{BuildError, ExploreError, Explored, Table, explore};
 
-/// The sets of states that are reached, numbered by their least paths.
-fn explored<C: Cells>(
+/// The sets of states in which a table's integer part can be, if the digits of a track are forgotten, from the start sets that
+/// `sign_closure` finds, numbered by their least paths. The track is one of the table's, and the limit of cells is at most 16,777,216.
+/// `Heavy` comes exactly if these sets have more cells than the limit: for each the number of letters of the other tracks, one, and its
+/// members. `Memory` comes if the program is out of memory.
+pub fn explored_subsets<C: Cells>(
     alloc: Global,
     table: &Table<C>,
     track: u32,
@@ -68,7 +71,7 @@ pub fn project_int<C: Cells>(
         Ok(starts) => starts,
         Err(Memory) => return Err(BuildError::Memory),
     };
-    let found = match explored(alloc, table, track, &starts, limit) {
+    let found = match explored_subsets(alloc, table, track, &starts, limit) {
         Ok(found) => found,
         Err(error) => return Err(error),
     };

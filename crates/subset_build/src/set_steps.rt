@@ -35,7 +35,7 @@ impl<'a, C: Cells> Model for SetSteps<'a, C> {
 }
 
 /// Puts a list in rising order, each number once.
-fn put_in_order(list: &mut Key)
+pub fn put_in_order(list: &mut Key)
     ensures { IsRisingSet (Contains list.old.items) list.new.items }
 {
     list.as_mut_slice().sort_unstable();
