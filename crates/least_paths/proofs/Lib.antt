@@ -1,0 +1,5 @@
+pub mod PathEnds
+pub mod LeastPaths
+pub mod Marked
+pub mod Walked
+pub mod StateWalks
