@@ -16,7 +16,7 @@ use Rattle.lash_model.specs.Tables.{Table, letters, ints, IsTable}
 use Rattle.lash_model.specs.Acceptance.{int_state, accepts_word}
 use Rattle.lash_model.specs.Standing.{StandsForWhole, all_int}
 use Rattle.lash_model.proofs.Wholeness.{whole_over_one}
-use Rattle.solution_pick.proofs.PathEnds.{state_in}
+use Rattle.least_paths.proofs.PathEnds.{state_in}
 use Rattle.product_ops.specs.Tracks.{TrackLists}
 use Rattle.product_ops.specs.Operations.{joined}
 use Rattle.product_ops.specs.Pairs.{pairs, left_operand, right_operand, IsPairTable}

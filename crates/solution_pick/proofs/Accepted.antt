@@ -9,11 +9,11 @@ use Rattle.lash_model.specs.Acceptance.{int_state}
 use Rattle.lash_model.specs.Lassos.{IsLasso}
 use Rattle.lash_model.proofs.Digits.{power_positive}
 use Rattle.canonical_laws.specs.Canonical.{IsPathOf, IsCanonical}
-use Rattle.solution_pick.specs.Nets.{IsOrdered, int_net}
-use Rattle.solution_pick.specs.Solutions.{AcceptsNothing, IsLeastAccepted}
-use Rattle.solution_pick.specs.Arrivals.{IsFirstYes, IsLeastTo}
-use Rattle.solution_pick.proofs.PathEnds.{meet, int_closed}
-use Rattle.solution_pick.proofs.LeastPaths.{least_at_most}
+use Rattle.least_paths.specs.Nets.{IsOrdered, int_net}
+use Rattle.least_paths.specs.Arrivals.{IsLeastTo}
+use Rattle.least_paths.proofs.PathEnds.{meet, int_closed}
+use Rattle.least_paths.proofs.LeastPaths.{least_at_most}
+use Rattle.solution_pick.specs.Solutions.{AcceptsNothing, IsLeastAccepted, IsFirstYes}
 
 pub path_of : (t : Table) → IsTable t → (sign : ℕ) (w : List ℕ) → sign < 2 ^ t.tracks → All (λ l. l < letters t) w
     → IsPathOf t.roots (letters t) (record { start = sign; word = w })

@@ -11,20 +11,22 @@ use Rattle.graph_laws.proofs.Joining.{go-append}
 use Rattle.lash_model.specs.Lassos.{Lasso}
 use Rattle.lash_model.specs.Tables.{Table, letters, ints, fracs, IsTable}
 use Rattle.lash_model.specs.Acceptance.{int_state, accepts_lasso}
+use Rattle.canonical_laws.specs.Canonical.{IsPathOf}
 use Rattle.part_laws.specs.Graphs.{IsWord, IsLooping}
 use Rattle.part_laws.specs.Endings.{accepts_from}
 use Rattle.part_laws.specs.CanonicalMixed.{fraction_graph, IsCanonicalMixed}
 use Rattle.part_laws.proofs.LassoWords.{AreWords, lasso_words, root_in, int_walk_in}
 use Rattle.part_laws.proofs.Walking.{walk-copies, stays}
-use Rattle.solution_pick.specs.Nets.{IsOrdered, int_net, found_net}
-use Rattle.solution_pick.specs.Arrivals.{IsLeastTo}
+use Rattle.least_paths.specs.Nets.{Net, end_of, IsOrdered, int_net, found_net}
+use Rattle.least_paths.specs.Arrivals.{IsLeastTo}
+use Rattle.least_paths.specs.Searches.{row_steps, state_at, IsFirstPlace}
+use Rattle.least_paths.proofs.PathEnds.{meet, int_closed}
+use Rattle.least_paths.proofs.LeastPaths.{least_at_most}
+use Rattle.least_paths.proofs.StateWalks.{graph_path, ends_at, first_least, nowhere}
 use Rattle.solution_pick.specs.FractionSolutions.{AcceptsNoLasso, AcceptsSome, output, IsWordAtMost, IsYesLoop, LeadsNowhere}
 use Rattle.solution_pick.specs.FractionSolutions.{IsLeastStem, IsLeastCycle, IsLeastPair, IsFixedSolution}
-use Rattle.solution_pick.specs.FractionSearches.{Started, fraction_steps, state_at, IsDead, IsFirstLive, IsFirstYesLoop, IsFirstPlace, AreTargets}
-use Rattle.solution_pick.proofs.PathEnds.{meet, int_closed}
-use Rattle.solution_pick.proofs.LeastPaths.{least_at_most}
+use Rattle.solution_pick.specs.FractionSearches.{frac_net, IsDead, IsFirstLive, IsFirstYesLoop, AreTargets}
 use Rattle.solution_pick.proofs.Accepted.{path_of}
-use Rattle.solution_pick.proofs.FractionWalks.{reached, IsFractionPath, fraction_path, ends_at, first_least, nowhere}
 use Rattle.solution_pick.proofs.DeadStates.{parted, dead_accepts_none, dead_not_some, nowhere_dead}
 
 abbrev pub path : ℕ → List ℕ → Path
@@ -32,29 +34,29 @@ path start word = record { start = start; word = word }
 
 -- ---- the stem
 -- a search that begins with one state
-abbrev pub from_one : Table → ℕ → Started
-from_one t q = record { table = t; starts = q ∷ [] }
+abbrev pub from_one : Table → ℕ → Net
+from_one t q = frac_net t (q ∷ [])
 
 only_start : (t : Table) (q start : ℕ) → start < length (from_one t q).starts → start ≡ 0
 only_start t q start lt = omega (arith, lt)
 
-pub least_stem : (t : Table) (q : ℕ) (k : KeyTable) → IsExplored (fraction_steps (from_one t q)) 16777216 k → (i start : ℕ) (w : List ℕ)
+pub least_stem : (t : Table) (q : ℕ) (k : KeyTable) → IsExplored (row_steps (from_one t q)) 16777216 k → (i start : ℕ) (w : List ℕ)
     → IsFirstYesLoop t k i → IsLeastTo (found_net k) i (path start w) → IsLeastStem t q w
 least_stem t q k e i start w f h = record {
   letters_in = valid.letters;
   leads = subst (IsYesLoop t) (ends_at (from_one t q) 16777216 k e i (path start w) h
-      ∙ ap (λ n. reached (from_one t q) (path n w)) zero_start) f.good;
+      ∙ ap (λ n. end_of (from_one t q) (path n w)) zero_start) f.good;
   least = λ v v_in good. subst (λ n. AtMost (path n w) (path 0 v)) zero_start
       (first_least (from_one t q) 16777216 k e (IsYesLoop t) i (path start w) h f.first (path 0 v) (record { start = omega arith; letters = v_in }) good);
 }
   where
-    valid : IsFractionPath (from_one t q) (path start w)
-    valid = fraction_path (from_one t q) 16777216 k e (path start w) h.valid
+    valid : IsPathOf (q ∷ []) (letters t) (path start w)
+    valid = graph_path (from_one t q) 16777216 k e (path start w) h.valid
 
     zero_start : start ≡ 0
     zero_start = only_start t q start valid.start
 
-pub no_stem : (t : Table) (q : ℕ) (k : KeyTable) → IsExplored (fraction_steps (from_one t q)) 16777216 k
+pub no_stem : (t : Table) (q : ℕ) (k : KeyTable) → IsExplored (row_steps (from_one t q)) 16777216 k
     → ((i : ℕ) → i < length k.keys → IsYesLoop t (state_at k i) → ⊥) → LeadsNowhere t q
 no_stem t q k e none w w_in good = nowhere (from_one t q) 16777216 k e (IsYesLoop t) none (path 0 w) (record { start = omega arith; letters = w_in }) good
 
@@ -68,25 +70,25 @@ front_letter x y (inr (earlier e s h)) = inr (earlier (omega (arith, e)) refl (i
 
 -- the path of a word without its first letter
 rest_path : (t : Table) (q : ℕ) (targets : List ℕ) → AreTargets t q (letters t) targets → (l : ℕ) (v : List ℕ) → IsWord (letters t) (l ∷ v)
-    → IsFractionPath (record { table = t; starts = targets }) (path l v)
+    → IsPathOf targets (letters t) (path l v)
 rest_path t q targets a l v v_in = record { start = subst (λ n. l < n) (sym a.count) v_in.0; letters = v_in.1 }
 
 rest_reached : (t : Table) (q : ℕ) (targets : List ℕ) → AreTargets t q (letters t) targets → (l : ℕ) (v : List ℕ) → l < letters t
-    → reached (record { table = t; starts = targets }) (path l v) ≡ go t.frac_rows (letters t) q (l ∷ v)
+    → end_of (frac_net t targets) (path l v) ≡ go t.frac_rows (letters t) q (l ∷ v)
 rest_reached t q targets a l v l_in = ap (λ p. go t.frac_rows (letters t) p v) (a.each l l_in)
 
-pub least_cycle : (t : Table) (q : ℕ) (targets : List ℕ) (k : KeyTable) → IsExplored (fraction_steps (record { table = t; starts = targets })) 16777216 k
+pub least_cycle : (t : Table) (q : ℕ) (targets : List ℕ) (k : KeyTable) → IsExplored (row_steps (frac_net t targets)) 16777216 k
     → AreTargets t q (letters t) targets → (i start : ℕ) (w : List ℕ) → IsFirstPlace k q i → IsLeastTo (found_net k) i (path start w)
     → IsLeastCycle t q (start ∷ w)
 least_cycle t q targets k e a i start w f h = record {
   letters_in = (start_in, valid.letters);
   some = omega arith;
-  leads = sym (rest_reached t q targets a start w start_in) ∙ sym (ends_at (record { table = t; starts = targets }) 16777216 k e i (path start w) h) ∙ f.is;
+  leads = sym (rest_reached t q targets a start w start_in) ∙ sym (ends_at (frac_net t targets) 16777216 k e i (path start w) h) ∙ f.is;
   least = least;
 }
   where
-    valid : IsFractionPath (record { table = t; starts = targets }) (path start w)
-    valid = fraction_path (record { table = t; starts = targets }) 16777216 k e (path start w) h.valid
+    valid : IsPathOf targets (letters t) (path start w)
+    valid = graph_path (frac_net t targets) 16777216 k e (path start w) h.valid
 
     start_in : start < letters t
     start_in = subst (λ n. start < n) a.count valid.start
@@ -94,18 +96,18 @@ least_cycle t q targets k e a i start w f h = record {
     least : (v : List ℕ) → IsWord (letters t) v → 0 < length v → go t.frac_rows (letters t) q v ≡ q → IsWordAtMost (start ∷ w) v
     least [] v_in some back = absurd (omega (arith, some))
     least (l ∷ v) v_in some back = front_letter (path start w) (path l v)
-        (first_least (record { table = t; starts = targets }) 16777216 k e (λ p. p ≡ q) i (path start w) h f.first (path l v)
+        (first_least (frac_net t targets) 16777216 k e (λ p. p ≡ q) i (path start w) h f.first (path l v)
         (rest_path t q targets a l v v_in) (rest_reached t q targets a l v v_in.0 ∙ back))
 
 -- a state that lies on a loop is met again
 pub cycle_somewhere : (t : Table) (q : ℕ) (targets : List ℕ) (k : KeyTable)
-    → IsExplored (fraction_steps (record { table = t; starts = targets })) 16777216 k → AreTargets t q (letters t) targets
+    → IsExplored (row_steps (frac_net t targets)) 16777216 k → AreTargets t q (letters t) targets
     → IsLooping t.frac_rows (letters t) q → ((i : ℕ) → i < length k.keys → state_at k i ≡ q → ⊥) → ⊥
 cycle_somewhere t q targets k e a loop none = met loop.word loop.letters loop.some loop.leads
   where
     met : (v : List ℕ) → IsWord (letters t) v → 0 < length v → go t.frac_rows (letters t) q v ≡ q → ⊥
     met [] v_in some back = omega (arith, some)
-    met (l ∷ v) v_in some back = nowhere (record { table = t; starts = targets }) 16777216 k e (λ p. p ≡ q) none (path l v)
+    met (l ∷ v) v_in some back = nowhere (frac_net t targets) 16777216 k e (λ p. p ≡ q) none (path l v)
         (rest_path t q targets a l v v_in) (rest_reached t q targets a l v v_in.0 ∙ back)
 
 -- ---- the lasso

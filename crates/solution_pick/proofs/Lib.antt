@@ -1,9 +1,4 @@
-pub mod PathEnds
-pub mod LeastPaths
-pub mod Marked
-pub mod Walked
 pub mod Accepted
 pub mod IdleLetters
-pub mod FractionWalks
 pub mod DeadStates
 pub mod FixedSolutions

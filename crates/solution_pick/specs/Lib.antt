@@ -1,5 +1,3 @@
 pub mod Solutions
-pub mod Nets
-pub mod Arrivals
 pub mod FractionSolutions
 pub mod FractionSearches

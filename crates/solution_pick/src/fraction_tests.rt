@@ -7,7 +7,6 @@ ghost use Rattle.step_tables.specs.Kept.{wide};
 use crate::fractions::fraction_solution;
 use crate::scans::first_live;
 use crate::stems::least_ending;
-use components::components;
 use digit_codes::{Base, Lasso};
 use lash_io::Memory;
 use packed_cells::{Packed, Plain};
@@ -91,8 +90,7 @@ fn check_ending(
     cycle: &[u32],
 ) -> Result<(), Fail> {
     assert!(rt; out < table.fracs());
-    let parts = components(alloc, table)?;
-    match least_ending(alloc, table, &parts, out)? {
+    match least_ending(alloc, table, out)? {
         Some(ending) => {
             assert_eq!(rt; ending.stem.as_slice(), stem);
             assert_eq!(rt; ending.cycle.as_slice(), cycle);

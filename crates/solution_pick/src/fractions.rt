@@ -10,10 +10,9 @@ ghost use Rattle.solution_pick.specs.FractionSolutions.{AcceptsNoLasso, IsFixedS
 use crate::picking::lasso;
 use crate::scans::{first_live, fraction_out};
 use crate::stems::{Ending, least_ending};
-use crate::walking::{Trail, least_path};
-use components::components;
 use digit_codes::Lasso;
 use lash_io::Memory;
+use least_paths::{Trail, least_path};
 use packed_cells::Packed;
 use std::alloc::Global;
 use step_tables::Table;
@@ -37,11 +36,7 @@ pub(crate) fn fraction_solution(
         Ok(trail) => trail,
         Err(Memory) => return Err(Memory),
     };
-    let parts = match components(alloc, table) {
-        Ok(parts) => parts,
-        Err(Memory) => return Err(Memory),
-    };
-    let found = match least_ending(alloc, table, &parts, fraction_out(table, state)) {
+    let found = match least_ending(alloc, table, fraction_out(table, state)) {
         Ok(found) => found,
         Err(Memory) => return Err(Memory),
     };

@@ -1,15 +1,11 @@
 //! The fixed solution of a canonical table, and membership.
 #![tactic(auto)]
 
-mod fraction_steps;
 mod fractions;
 mod laws;
-mod nets;
-mod parents;
 mod picking;
 mod scans;
 mod stems;
-mod walking;
 
 pub use laws::{
     fixed_is_accepted, fixed_is_one, least_is_one, no_idle_letter, none_or_fixed, none_or_least,

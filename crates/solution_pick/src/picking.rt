@@ -13,9 +13,9 @@ ghost use Rattle.solution_pick.specs.Solutions.{AcceptsNothing, IsLeastAccepted}
 
 use crate::fractions::fraction_solution;
 use crate::scans::first_yes;
-use crate::walking::{Trail, least_path};
 use digit_codes::{Lasso, Word};
 use lash_io::Memory;
+use least_paths::{Trail, least_path};
 use packed_cells::Packed;
 use std::alloc::Global;
 use step_tables::Table;

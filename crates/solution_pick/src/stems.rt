@@ -1,31 +1,36 @@
 //! The least stem and the least cycle, each by one search over fraction states. What is explored is numbered by least paths, so the
 //! first position of a kind has the least path.
 
-ghost use Rattle.std.specs.Prelude.{◌≡◌, ◌<◌, ◌∷◌, ℕ, true, false, length, IfOk, IfNone, IfSome, All};
+ghost use Rattle.std.specs.Prelude.{◌≡◌, ◌<◌, ◌≤◌, ◌∷◌, ℕ, true, false, length, IfOk, IfNone, IfSome, All};
 ghost use Rattle.graph_laws.specs.Walks.{go};
+ghost use Rattle.graph_laws.specs.Exploring.{IsExplored};
 ghost use Rattle.lash_model.specs.Tables.{letters, fracs};
 ghost use Rattle.part_laws.specs.Graphs.{IsLooping};
 ghost use Rattle.components.specs.Partings.{AreParts};
+ghost use Rattle.least_paths.specs.Searches.{row_steps, HaveStates, state_at};
 ghost use Rattle.solution_pick.specs.FractionSolutions.{IsYesLoop, LeadsNowhere, IsLeastStem, IsLeastCycle};
-ghost use Rattle.solution_pick.specs.FractionSearches.{HaveStates, state_at, IsFirstYesLoop, IsFirstPlace, AreTargets};
+ghost use Rattle.solution_pick.specs.FractionSearches.{frac_net, IsFirstYesLoop, AreTargets};
 
-use crate::fraction_steps::explored_from;
-use crate::nets::Search;
-use crate::walking::{Trail, least_path};
-use components::Parts;
+use components::{Parts, frac_rows_of, parts_of};
 use lash_io::Memory;
+use least_paths::{Search, Trail, explored_rows, first_place, least_path, place};
 use packed_cells::Packed;
 use std::alloc::Global;
 use step_tables::{Explored, Table};
 
-/// The fraction state at a position.
-fn place(table: &Table<Packed>, found: &Explored, at: u32) -> u32
-    requires states { HaveStates table.now.table found.now }
-    requires at { at < length found.now.keys }
-    ensures value { result ≡ state_at found.now at }
-    ensures below { result < fracs table.now.table }
+/// The fraction states that are reached from some of them, numbered by their least paths. The one error is Memory: out of memory.
+fn explored_from(
+    alloc: Global,
+    table: &Table<Packed>,
+    rows: &[u32],
+    starts: &[u32],
+) -> Result<Explored, Memory>
+    requires rows { rows.now ≡ table.now.table.frac_rows }
+    requires inside { All (λ q. q < fracs table.now.table) starts.now }
+    requires few { length starts.now ≤ 4096 }
+    ensures { IfOk result (λ k. IsExplored (row_steps (frac_net table.now.table starts.now)) 16777216 k) }
 {
-    found.key(at)[0]
+    explored_rows(alloc, rows, table.letters(), table.fracs(), starts)
 }
 
 /// Whether a fraction state lies on a loop and has colour yes.
@@ -44,26 +49,12 @@ fn is_yes_loop(table: &Table<Packed>, parts: &Parts, state: u32) -> bool
 /// The first position of a looping state of colour yes. None if there is none.
 fn first_yes_loop(table: &Table<Packed>, parts: &Parts, found: &Explored) -> Option<u32>
     requires parts { AreParts table.now.table.frac_rows (letters table.now.table) (fracs table.now.table) parts.now }
-    requires states { HaveStates table.now.table found.now }
+    requires states { HaveStates (fracs table.now.table) found.now }
     ensures none { IfNone result ((i : ℕ) → i < length found.now.keys → IsYesLoop table.now.table (state_at found.now i) → ⊥) }
     ensures some { IfSome result (IsFirstYesLoop table.now.table found.now) }
 {
     for at in 0..found.len() {
-        if is_yes_loop(table, parts, place(table, found, at)) {
-            return Some(at);
-        }
-    }
-    None
-}
-
-/// The first position of a state. None if there is none.
-fn first_place(table: &Table<Packed>, found: &Explored, state: u32) -> Option<u32>
-    requires states { HaveStates table.now.table found.now }
-    ensures none { IfNone result ((i : ℕ) → i < length found.now.keys → state_at found.now i ≡ state → ⊥) }
-    ensures some { IfSome result (IsFirstPlace found.now state) }
-{
-    for at in 0..found.len() {
-        if place(table, found, at) == state {
+        if is_yes_loop(table, parts, place(table.fracs(), found, at)) {
             return Some(at);
         }
     }
@@ -75,15 +66,17 @@ fn first_place(table: &Table<Packed>, found: &Explored, state: u32) -> Option<u3
 fn least_stem(
     alloc: Global,
     table: &Table<Packed>,
+    rows: &[u32],
     parts: &Parts,
     state: u32,
 ) -> Result<Option<Vec<u32>>, Memory>
+    requires rows { rows.now ≡ table.now.table.frac_rows }
     requires parts { AreParts table.now.table.frac_rows (letters table.now.table) (fracs table.now.table) parts.now }
     requires state { state < fracs table.now.table }
     ensures none { IfOk result (λ found. IfNone found (LeadsNowhere table.now.table state)) }
     ensures least { IfOk result (λ found. IfSome found (λ w. IsLeastStem table.now.table state w.items)) }
 {
-    let found = match explored_from(alloc, table, &[state]) {
+    let found = match explored_from(alloc, table, rows, &[state]) {
         Ok(found) => found,
         Err(Memory) => return Err(Memory),
     };
@@ -130,7 +123,13 @@ fn with_front(alloc: Global, letter: u32, word: &[u32]) -> Result<Vec<u32>, Memo
 
 /// The least word that is not empty and leads from a looping fraction state back to it: the letter of one of its targets, and the least
 /// path from its targets to it. The one error is Memory: out of memory.
-fn least_cycle(alloc: Global, table: &Table<Packed>, state: u32) -> Result<Vec<u32>, Memory>
+fn least_cycle(
+    alloc: Global,
+    table: &Table<Packed>,
+    rows: &[u32],
+    state: u32,
+) -> Result<Vec<u32>, Memory>
+    requires rows { rows.now ≡ table.now.table.frac_rows }
     requires state { state < fracs table.now.table }
     requires looping { IsLooping table.now.table.frac_rows (letters table.now.table) state }
     ensures { IfOk result (λ w. IsLeastCycle table.now.table state w.items) }
@@ -140,11 +139,11 @@ fn least_cycle(alloc: Global, table: &Table<Packed>, state: u32) -> Result<Vec<u
         Ok(targets) => targets,
         Err(Memory) => return Err(Memory),
     };
-    let found = match explored_from(alloc, table, targets.as_slice()) {
+    let found = match explored_from(alloc, table, rows, targets.as_slice()) {
         Ok(found) => found,
         Err(Memory) => return Err(Memory),
     };
-    let at = match first_place(table, &found, state) {
+    let at = match first_place(table.fracs(), &found, state) {
         Some(at) => at,
         None => unreachable!(),
     };
@@ -170,17 +169,24 @@ pub(crate) struct Ending {
 pub(crate) fn least_ending(
     alloc: Global,
     table: &Table<Packed>,
-    parts: &Parts,
     state: u32,
 ) -> Result<Option<Ending>, Memory>
-    requires parts { AreParts table.now.table.frac_rows (letters table.now.table) (fracs table.now.table) parts.now }
-    requires state { state < fracs table.now.table }
+    requires { state < fracs table.now.table }
     ensures none { IfOk result (λ found. IfNone found (LeadsNowhere table.now.table state)) }
     ensures stem { IfOk result (λ found. IfSome found (λ e. IsLeastStem table.now.table state e.stem.items)) }
     ensures cycle { IfOk result (λ found. IfSome found (λ e.
         IsLeastCycle table.now.table (go table.now.table.frac_rows (letters table.now.table) state e.stem.items) e.cycle.items)) }
 {
-    let found = match least_stem(alloc, table, parts, state) {
+    let rows = match frac_rows_of(alloc, table) {
+        Ok(rows) => rows,
+        Err(Memory) => return Err(Memory),
+    };
+    let rows = rows.as_slice();
+    let parts = match parts_of(alloc, rows, table.letters(), table.fracs()) {
+        Ok(parts) => parts,
+        Err(Memory) => return Err(Memory),
+    };
+    let found = match least_stem(alloc, table, rows, &parts, state) {
         Ok(found) => found,
         Err(Memory) => return Err(Memory),
     };
@@ -188,7 +194,7 @@ pub(crate) fn least_ending(
         Some(stem) => stem,
         None => return Ok(None),
     };
-    match least_cycle(alloc, table, table.run_frac(state, stem.as_slice())) {
+    match least_cycle(alloc, table, rows, table.run_frac(state, stem.as_slice())) {
         Ok(cycle) => Ok(Some(Ending { stem, cycle })),
         Err(Memory) => Err(Memory),
     }

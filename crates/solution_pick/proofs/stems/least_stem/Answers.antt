@@ -1,9 +1,9 @@
 -- The least path to the first position of a looping state of colour yes has the least stem.
 use Rattle.std.proofs.Common.{sym, subst}
 use Rattle.graph_laws.specs.Exploring.{KeyTable}
-use Rattle.solution_pick.specs.Nets.{IsOrdered, found_net}
-use Rattle.solution_pick.specs.Arrivals.{IsLeastTo}
-use Rattle.solution_pick.proofs.FractionWalks.{found_ordered}
+use Rattle.least_paths.specs.Nets.{IsOrdered, found_net}
+use Rattle.least_paths.specs.Arrivals.{IsLeastTo}
+use Rattle.least_paths.proofs.StateWalks.{found_ordered}
 use Rattle.solution_pick.proofs.FixedSolutions.{path, from_one, no_stem, least_stem}
 use Rattle.solution_pick.proofs.stems.least_stem.Goals as goal
 

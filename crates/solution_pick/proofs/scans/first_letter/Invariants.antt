@@ -1,6 +1,0 @@
-use Rattle.std.proofs.Common.{◌≡◌, ℕ, ◌<◌}
-use Rattle.solution_pick.specs.Nets.{target}
-use Rattle.solution_pick.proofs.scans.first_letter.Given as goal
-
-abbrev pub invariant-loop-letter : goal.invariant-loop-letter
-invariant-loop-letter g l = (other : ℕ) → other < l.letter → target (g.G.Graph.net l.graph) l.from other ≡ l.to → ⊥

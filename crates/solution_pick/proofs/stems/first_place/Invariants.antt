@@ -1,6 +1,0 @@
-use Rattle.std.proofs.Common.{◌≡◌, ℕ, ◌<◌}
-use Rattle.solution_pick.specs.FractionSearches.{state_at}
-use Rattle.solution_pick.proofs.stems.first_place.Given as goal
-
-abbrev pub invariant-loop-at : goal.invariant-loop-at
-invariant-loop-at l = (j : ℕ) → j < l.at → state_at l.found j ≡ l.state → ⊥
