@@ -12,3 +12,6 @@ pub use nets::{Graph, Search};
 pub use row_steps::{RowSteps, explored_rows};
 pub use searches::{first_place, place};
 pub use walking::{Trail, least_path};
+
+#[cfg(test)]
+mod tests;
