@@ -1,0 +1,2 @@
+pub mod BreakpointMachines
+pub mod RealProjections
