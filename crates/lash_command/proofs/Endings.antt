@@ -33,7 +33,7 @@ use Rattle.script_parse.specs.declared.errors.ScriptError.TheVariants as reading
 use Rattle.script_parse.proofs.Excluding.{refusals_are_one, fit_or_refused, one_shape}
 use Rattle.lash_command.specs.Answers.{IsWhole, IsAsking, Answer, AreAnswered, kept_behind, texts_of, pieces_of, Outside, Claim, Stops, IsBlankRest, IsNextAsked, IsUnread, Ends, Explains, unread_ending, unanswered_ending}
 use Rattle.lash_command.specs.Scripts.{is_decided, Written, written_of, written_texts, IsGood, AreGood, IsBlank, IsGoodScript, AreAllAnswered}
-use Rattle.lash_command.specs.declared.ending.Refusal.TheVariants.{Syntax, Name, Limit, NoPower, Heavy}
+use Rattle.lash_command.specs.declared.ending.Refusal.TheVariants.{Syntax, Name, Limit, NoPower, Heavy, NotWeak}
 use Rattle.lash_command.specs.declared.ending.Ending.{Ending}
 use Rattle.lash_command.specs.declared.ending.Ending.TheVariants.{Finished, Usage, Refused, ReadFault, WriteFault, NoMemory, Unbuilt}
 
@@ -344,10 +344,13 @@ halted settings (Refused number (Limit which)) before now bytes starts d (inr (i
 halted settings (Refused number (Limit which)) before now bytes starts d (inr (inr (n, (is, s)))) = left_halts settings before now bytes n (answering.Closure which) (Refused number (Limit which)) starts (ap (λ k. Refused k (Limit which)) is) s
 halted settings (Refused number NoPower) before now bytes starts d (n, (is, s)) = left_halts settings before now bytes n answering.NoPower (Refused number NoPower) starts (ap (λ k. Refused k NoPower) is) s
 halted settings (Refused number Heavy) before now bytes starts d (n, (is, s)) = left_halts settings before now bytes n answering.Heavy (Refused number Heavy) starts (ap (λ k. Refused k Heavy) is) s
+halted settings (Refused number (NotWeak sign whole stem accept reject)) before now bytes starts d (n, (is, s)) =
+    left_halts settings before now bytes n (answering.NotWeak sign whole stem accept reject) (Refused number (NotWeak sign whole stem accept reject)) starts
+    (ap (λ k. Refused k (NotWeak sign whole stem accept reject)) is) s
 halted settings ReadFault before now bytes starts d h = absurd (true≢false (sym d))
 halted settings WriteFault before now bytes starts d h = absurd (true≢false (sym d))
 halted settings NoMemory before now bytes starts d h = absurd (true≢false (sym d))
-halted settings Unbuilt before now bytes starts d (n, s) = left_halts settings before now bytes n answering.Unbuilt Unbuilt starts refl s
+halted settings Unbuilt before now bytes starts d h = absurd h
 
 -- one ending
 one_ending : (settings : Settings) → Laws settings → (e f : Ending) (bytes : List ℕ) (before now other after : Outside) → Halts settings bytes before now e → Halts settings bytes other after f → e ≡ f
@@ -418,7 +421,7 @@ good_ends settings l (Refused number refusal) bytes before now xs starts g reads
 good_ends settings l ReadFault bytes before now xs starts g reads writes (n, s) = absurd (reads s.is.counted)
 good_ends settings l WriteFault bytes before now xs starts g reads writes h = absurd (writes h.counted)
 good_ends settings l NoMemory bytes before now xs starts g reads writes h = inr refl
-good_ends settings l Unbuilt bytes before now xs starts g reads writes h = absurd (other_end Unbuilt refl (good_end settings l Unbuilt bytes before now xs (halted settings Unbuilt before now bytes starts refl h) g).is)
+good_ends settings l Unbuilt bytes before now xs starts g reads writes h = absurd h
 
 pub good_scripts_end : (settings : Settings) → Laws settings → (e : Ending) (bytes : List ℕ) (before now : Outside) (xs : List Written) → before.left ≡ Some bytes → IsGoodScript settings bytes xs → (IsFaultCounted before.read_faults now.read_faults → ⊥) → (IsFaultCounted before.write_faults now.write_faults → ⊥) → Explains settings e 0 before now → ((e ≡ Finished) × AreAllAnswered settings before now xs) ⊎ (e ≡ NoMemory)
 good_scripts_end settings l e bytes before now xs starts g reads writes (inl (some, h)) = absurd (omega (arith, some))

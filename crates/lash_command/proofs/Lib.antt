@@ -1,3 +1,4 @@
+mod Letters
 mod GivenSets
 mod LoopBodies
 mod Fitting

@@ -14,7 +14,7 @@ use Rattle.statement_meaning.specs.Judging.{IsJudged, IsStatementWithin}
 use Rattle.statement_meaning.specs.declared.statement.Statement.{Statement}
 use Rattle.statement_answers.specs.Keeping.{grown}
 use Rattle.statement_answers.specs.declared.settings.Settings.{Settings}
-use Rattle.statement_answers.specs.Pieces.{IsPieceOf, IsUnbuilt, IsHeavyAsked, IsTooMuch, IsPowerless, IsPassedByClosure, Answered}
+use Rattle.statement_answers.specs.Pieces.{IsPieceOf, IsRefusedAsked, IsTooMuch, IsPowerless, IsPassedByClosure, Answered}
 use Rattle.statement_answers.specs.declared.errors.Unanswered.{Unanswered}
 use Rattle.statement_answers.specs.declared.errors.Unanswered.TheVariants as answering
 use Rattle.script_parse.specs.Answers.{OfStatement, IsNext, IsFinished, IsStopped, IsCause, Says}
@@ -84,10 +84,11 @@ stops_at_it settings base kept p q before now left held faults write_faults n s 
 
 -- a statement was not answered
 pub unanswered_ends : (settings : Settings) (base : ℕ) (kept : List KeptSet) (p q : Progress) (before now : Outside) (left held : Option (List ℕ)) (faults write_faults n : ℕ) (s : Statement) (U : Type 0) (cause : Unanswered) → Reads settings base kept p q before now faults n → IsNext base kept p q now.left left s → now.write_faults ≤ write_faults → Answered settings kept (asked_of s) now.held held now.write_faults write_faults {U = U} (Err cause) → Ends settings (unanswered_ending (n + 1) cause) before (record { left = left; read_faults = faults; held = held; write_faults = write_faults })
-unanswered_ends settings base kept p q before now left held faults write_faults n s U answering.Unbuilt r h rose shown =
-    let stops = stops_at_it settings base kept p q before now left held faults write_faults n s (IsUnbuilt settings) r h rose shown.0 shown.1 in
-    (stops.0, stops.1.1)
-unanswered_ends settings base kept p q before now left held faults write_faults n s U answering.Heavy r h rose shown = stops_at_it settings base kept p q before now left held faults write_faults n s (IsHeavyAsked settings) r h rose shown.0 shown.1
+unanswered_ends settings base kept p q before now left held faults write_faults n s U answering.Heavy r h rose shown =
+    stops_at_it settings base kept p q before now left held faults write_faults n s (λ ks a. IsRefusedAsked settings ks a answering.Heavy) r h rose shown.0 shown.1
+unanswered_ends settings base kept p q before now left held faults write_faults n s U (answering.NotWeak sign whole stem accept reject) r h rose shown =
+    let e : Unanswered = answering.NotWeak sign whole stem accept reject in
+    stops_at_it settings base kept p q before now left held faults write_faults n s (λ ks a. IsRefusedAsked settings ks a e) r h rose shown.0 shown.1
 unanswered_ends settings base kept p q before now left held faults write_faults n s U answering.NoPower r h rose shown = stops_at_it settings base kept p q before now left held faults write_faults n s IsPowerless r h rose shown.0 shown.1
 unanswered_ends settings base kept p q before now left held faults write_faults n s U (answering.Closure which) r h rose shown = inr (inr (stops_at_it settings base kept p q before now left held faults write_faults n s (IsPassedByClosure settings which) r h rose shown.0 shown.1))
 unanswered_ends settings base kept p q before now left held faults write_faults n s U answering.KeptCells r h rose shown = inr (inl (refl, stops_at_it settings base kept p q before now left held faults write_faults n s (IsTooMuch settings) r h rose shown.0 shown.1))

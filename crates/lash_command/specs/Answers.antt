@@ -16,7 +16,7 @@ use Rattle.statement_meaning.specs.Asking as meaning
 use Rattle.statement_meaning.specs.Asking.{Asked}
 use Rattle.statement_meaning.specs.Judging.{statement_fault, IsStatementWithin}
 use Rattle.statement_answers.specs.Keeping.{grown}
-use Rattle.statement_answers.specs.Pieces.{IsPieceOf, IsUnbuilt, IsHeavyAsked, IsTooMuch, IsPowerless, IsPassedByClosure}
+use Rattle.statement_answers.specs.Pieces.{IsPieceOf, IsRefusedAsked, IsTooMuch, IsPowerless, IsPassedByClosure}
 use Rattle.statement_answers.specs.declared.settings.Settings.{Settings}
 use Rattle.statement_answers.specs.declared.errors.Unanswered.{Unanswered}
 use Rattle.statement_answers.specs.declared.errors.Unanswered.TheVariants as answering
@@ -25,7 +25,7 @@ use Rattle.script_parse.specs.declared.errors.ScriptError.{ScriptError}
 use Rattle.script_parse.specs.declared.errors.ScriptError.TheVariants as reading
 use Rattle.lash_command.specs.Lines.{status_of, line_of, IsReported}
 use Rattle.lash_command.specs.declared.status.Status.{Status}
-use Rattle.lash_command.specs.declared.ending.Refusal.TheVariants.{Syntax, Name, Limit, NoPower, Heavy}
+use Rattle.lash_command.specs.declared.ending.Refusal.TheVariants.{Syntax, Name, Limit, NoPower, Heavy, NotWeak}
 use Rattle.lash_command.specs.declared.ending.Ending.{Ending}
 use Rattle.lash_command.specs.declared.ending.Ending.TheVariants.{Finished, Usage, Refused, ReadFault, WriteFault, NoMemory, Unbuilt}
 
@@ -156,11 +156,12 @@ Ends settings (Refused number (Syntax place)) before now = StopsAt settings befo
 Ends settings (Refused number (Name fault place)) before now = StopsAt settings before now number (IsUnread settings before now (reading.Name fault place))
 Ends settings (Refused number (Limit which)) before now = StopsAt settings before now number (IsUnread settings before now (reading.Limit which)) ⊎ ((which ≡ KeptCells) × StopsAt settings before now number (IsNextAsked settings (IsTooMuch settings))) ⊎ StopsAt settings before now number (IsNextAsked settings (IsPassedByClosure settings which))
 Ends settings (Refused number NoPower) before now = StopsAt settings before now number (IsNextAsked settings IsPowerless)
-Ends settings (Refused number Heavy) before now = StopsAt settings before now number (IsNextAsked settings (IsHeavyAsked settings))
+Ends settings (Refused number Heavy) before now = StopsAt settings before now number (IsNextAsked settings (λ kept asked. IsRefusedAsked settings kept asked answering.Heavy))
+Ends settings (Refused number (NotWeak sign whole stem accept reject)) before now = StopsAt settings before now number (IsNextAsked settings (λ kept asked. IsRefusedAsked settings kept asked (answering.NotWeak sign whole stem accept reject)))
 Ends settings ReadFault before now = StopsSomewhere settings before now (IsUnread settings before now reading.Read)
 Ends settings WriteFault before now = IsCutShort settings before now
 Ends settings NoMemory before now = StopsSomewhere settings before now (λ _ _. Unit)
-Ends settings Unbuilt before now = StopsSomewhere settings before now (IsNextAsked settings (IsUnbuilt settings))
+Ends settings Unbuilt before now = ⊥
 
 -- where there are words nothing is taken
 abbrev pub Explains : Settings → Ending → ℕ → Outside → Outside → Type 0
@@ -188,8 +189,8 @@ unread_ending number reading.Memory = NoMemory
 
 -- how it ends where the statement of the number is not answered
 abbrev pub unanswered_ending : ℕ → Unanswered → Ending
-unanswered_ending number answering.Unbuilt = Unbuilt
 unanswered_ending number answering.Heavy = Refused number Heavy
+unanswered_ending number (answering.NotWeak sign whole stem accept reject) = Refused number (NotWeak sign whole stem accept reject)
 unanswered_ending number answering.NoPower = Refused number NoPower
 unanswered_ending number (answering.Closure which) = Refused number (Limit which)
 unanswered_ending number answering.KeptCells = Refused number (Limit KeptCells)

@@ -1,5 +1,5 @@
 -- The codes of a run and the lines of refusals. Own.
-use Rattle.std.specs.Prelude.{ℕ, ◌⊎◌, List, [], ◌++◌, Option, codes}
+use Rattle.std.specs.Prelude.{ℕ, ◌⊎◌, List, [], ◌∷◌, ◌++◌, Option, codes}
 use Rattle.std.specs.Fmt.{decimal}
 use Rattle.lash_io.specs.Faults.{IsFaultCounted}
 use Rattle.lash_io.specs.Sinks.{Holds, HoldsPart}
@@ -10,7 +10,7 @@ use Rattle.script_meaning.specs.declared.limits.Which.TheVariants as limit
 use Rattle.lash_command.specs.declared.status.Status.{Status}
 use Rattle.lash_command.specs.declared.status.Status.TheVariants as status
 use Rattle.lash_command.specs.declared.ending.Refusal.{Refusal}
-use Rattle.lash_command.specs.declared.ending.Refusal.TheVariants.{Syntax, Name, Limit, NoPower, Heavy}
+use Rattle.lash_command.specs.declared.ending.Refusal.TheVariants.{Syntax, Name, Limit, NoPower, Heavy, NotWeak}
 use Rattle.lash_command.specs.declared.ending.Ending.{Ending}
 use Rattle.lash_command.specs.declared.ending.Ending.TheVariants.{Finished, Usage, Refused, ReadFault, WriteFault, NoMemory, Unbuilt}
 
@@ -27,7 +27,8 @@ code_of status.WriteFault = 7
 code_of status.NoMemory = 8
 code_of status.Unbuilt = 9
 
--- a wrong syntax or name is a fault of the script, and a limit or a heavy step makes it too large; a loop may have no power
+-- a wrong syntax or name is a fault of the script, and a limit or a heavy step makes it too large; a loop may have no power, and a set no
+-- weak automaton
 abbrev pub status_of : Ending → Status
 status_of Finished = status.Fine
 status_of Usage = status.Usage
@@ -36,6 +37,7 @@ status_of (Refused k (Name fault place)) = status.Script
 status_of (Refused k (Limit which)) = status.TooLarge
 status_of (Refused k NoPower) = status.NoPower
 status_of (Refused k Heavy) = status.TooLarge
+status_of (Refused k (NotWeak sign whole stem accept reject)) = status.NotWeak
 status_of ReadFault = status.ReadFault
 status_of WriteFault = status.WriteFault
 status_of NoMemory = status.NoMemory
@@ -65,6 +67,21 @@ limit_words limit.KeptCells = codes "kept cells"
 abbrev pub place_text : ℕ → List ℕ
 place_text place = codes " at byte " ++ decimal place
 
+-- letters in decimal, each after a comma
+abbrev pub letters_text : List ℕ → List ℕ
+letters_text [] = []
+letters_text (l ∷ ls) = (codes "," ++ decimal l) ++ letters_text ls
+
+-- the letters of a word with commas between them
+abbrev pub word_text : List ℕ → List ℕ
+word_text [] = codes "-"
+word_text (l ∷ ls) = decimal l ++ letters_text ls
+
+-- the number of a sign vector, and words over the free variables of the formula whose set is not weak
+abbrev pub not_weak_text : ℕ → List ℕ → List ℕ → List ℕ → List ℕ → List ℕ
+not_weak_text sign whole stem accept reject = codes "not weak sign " ++ (decimal sign ++ ((codes " whole " ++ word_text whole)
+    ++ ((codes " stem " ++ word_text stem) ++ ((codes " accept " ++ word_text accept) ++ (codes " reject " ++ word_text reject)))))
+
 -- what is wrong, and where
 abbrev pub refusal_text : Refusal → List ℕ
 refusal_text (Syntax place) = codes "syntax" ++ place_text place
@@ -72,6 +89,7 @@ refusal_text (Name fault place) = fault_words fault ++ place_text place
 refusal_text (Limit which) = codes "limit " ++ limit_words which
 refusal_text NoPower = codes "no power"
 refusal_text Heavy = codes "heavy"
+refusal_text (NotWeak sign whole stem accept reject) = not_weak_text sign whole stem accept reject
 
 -- the statement, and why it is refused
 abbrev pub refused_line : ℕ → Refusal → List ℕ

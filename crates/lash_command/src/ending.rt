@@ -4,26 +4,42 @@ ghost use Rattle.std.specs.Prelude.{◌≡◌};
 ghost use Rattle.lash_command.specs.Lines.{status_of};
 
 use crate::status::Status;
+use digit_codes::Word;
 use script_meaning::Which;
 use script_names::NameFault;
 
 /// Why a statement is refused. A place is a number of script bytes.
-#[derive(Debug, Drop, PartialEq, Eq)]
+#[derive(Drop)]
 pub enum Refusal {
     /// No statement goes on with the token at the place.
-    Syntax { place: u64 },
+    Syntax {
+        place: u64,
+    },
     /// The name at the place is the first wrong one.
-    Name { fault: NameFault, place: u64 },
+    Name {
+        fault: NameFault,
+        place: u64,
+    },
     /// The first limit that is passed.
-    Limit { which: Which },
+    Limit {
+        which: Which,
+    },
     /// No power of a loop's matrix comes again.
     NoPower,
     /// A construction of its tables has more cells than the limit.
     Heavy,
+    /// No weak automaton has the set of a formula that binds a variable, as a sign vector and four words over its free variables show.
+    NotWeak {
+        sign: u32,
+        whole: Word,
+        stem: Word,
+        accept: Word,
+        reject: Word,
+    },
 }
 
 /// How a run ends. Statements are counted from 1.
-#[derive(Debug, Drop, PartialEq, Eq)]
+#[derive(Drop)]
 pub enum Ending {
     /// All statements are answered.
     Finished,
@@ -34,7 +50,7 @@ pub enum Ending {
     ReadFault,
     WriteFault,
     NoMemory,
-    /// There are words, or a statement has a real variable and binds a variable: neither is built yet.
+    /// There are words, which are not built yet.
     Unbuilt,
 }
 
@@ -50,6 +66,7 @@ impl Ending {
                 Refusal::Syntax { .. } | Refusal::Name { .. } => Status::Script,
                 Refusal::Limit { .. } | Refusal::Heavy => Status::TooLarge,
                 Refusal::NoPower => Status::NoPower,
+                Refusal::NotWeak { .. } => Status::NotWeak,
             },
             Ending::ReadFault => Status::ReadFault,
             Ending::WriteFault => Status::WriteFault,

@@ -1,12 +1,14 @@
 //! The line of an ending, on the second sink. Own. It goes out in one block, and takes no memory.
 
 ghost use Rattle.std.specs.Prelude.{◌≡◌, ◌≤◌, ◌++◌, codes, OnErr};
+ghost use Rattle.std.specs.Fmt.{decimal};
 ghost use Rattle.lash_io.specs.Faults.{IsFaultCounted};
 ghost use Rattle.lash_io.specs.Blocks.{Passes};
 ghost use Rattle.lash_io.specs.Sinks.{Puts};
-ghost use Rattle.lash_command.specs.Lines.{fault_words, place_text, limit_words, refusal_text, refused_line, line_of, IsReported};
+ghost use Rattle.lash_command.specs.Lines.{fault_words, place_text, limit_words, letters_text, word_text, not_weak_text, refusal_text, refused_line, line_of, IsReported};
 
 use crate::ending::{Ending, Refusal};
+use digit_codes::Word;
 use lash_io::{Block, Failed, Sink};
 use script_meaning::Which;
 use script_names::NameFault;
@@ -69,6 +71,80 @@ fn put_limit<E: Sink>(block: &mut Block, sink: &mut E, which: Which) -> Result<(
     block.put(sink, words_of_limit(which))
 }
 
+/// Puts a letter after a comma.
+fn put_letter<E: Sink>(block: &mut Block, sink: &mut E, letter: u32) -> Result<(), Failed>
+    ensures bytes { Passes (E.held sink.old) block.old (E.held sink.new) block.new result (codes "," ++ decimal letter) }
+    ensures count { E.faults sink.old ≤ E.faults sink.new }
+    ensures cause { OnErr result (IsFaultCounted (E.faults sink.old) (E.faults sink.new)) }
+{
+    block.put(sink, b",")?;
+    block.put_number(sink, letter as u64)
+}
+
+/// Puts letters, each after a comma.
+fn put_letters<E: Sink>(block: &mut Block, sink: &mut E, letters: &[u32]) -> Result<(), Failed>
+    ensures bytes { Passes (E.held sink.old) block.old (E.held sink.new) block.new result (letters_text letters.now) }
+    ensures count { E.faults sink.old ≤ E.faults sink.new }
+    ensures cause { OnErr result (IsFaultCounted (E.faults sink.old) (E.faults sink.new)) }
+{
+    for letter in letters {
+        put_letter(block, sink, *letter)?;
+    }
+    Ok(())
+}
+
+/// Puts the letters of a word with commas between them.
+fn put_word<E: Sink>(block: &mut Block, sink: &mut E, word: &Word) -> Result<(), Failed>
+    ensures bytes { Passes (E.held sink.old) block.old (E.held sink.new) block.new result (word_text word.now) }
+    ensures count { E.faults sink.old ≤ E.faults sink.new }
+    ensures cause { OnErr result (IsFaultCounted (E.faults sink.old) (E.faults sink.new)) }
+{
+    match word.letters().split_first() {
+        None => block.put(sink, b"-"),
+        Some((first, others)) => {
+            block.put_number(sink, *first as u64)?;
+            put_letters(block, sink, others)
+        }
+    }
+}
+
+/// Puts a word after what it is.
+fn put_part<E: Sink>(
+    block: &mut Block,
+    sink: &mut E,
+    name: &[u8],
+    word: &Word,
+) -> Result<(), Failed>
+    ensures bytes { Passes (E.held sink.old) block.old (E.held sink.new) block.new result (name.now ++ word_text word.now) }
+    ensures count { E.faults sink.old ≤ E.faults sink.new }
+    ensures cause { OnErr result (IsFaultCounted (E.faults sink.old) (E.faults sink.new)) }
+{
+    block.put(sink, name)?;
+    put_word(block, sink, word)
+}
+
+/// Puts the words that show that a set is not weak.
+fn put_not_weak<E: Sink>(
+    block: &mut Block,
+    sink: &mut E,
+    sign: u32,
+    whole: &Word,
+    stem: &Word,
+    accept: &Word,
+    reject: &Word,
+) -> Result<(), Failed>
+    ensures bytes { Passes (E.held sink.old) block.old (E.held sink.new) block.new result (not_weak_text sign whole.now stem.now accept.now reject.now) }
+    ensures count { E.faults sink.old ≤ E.faults sink.new }
+    ensures cause { OnErr result (IsFaultCounted (E.faults sink.old) (E.faults sink.new)) }
+{
+    block.put(sink, b"not weak sign ")?;
+    block.put_number(sink, sign as u64)?;
+    put_part(block, sink, b" whole ", whole)?;
+    put_part(block, sink, b" stem ", stem)?;
+    put_part(block, sink, b" accept ", accept)?;
+    put_part(block, sink, b" reject ", reject)
+}
+
 /// Puts why a statement is refused.
 fn put_refusal<E: Sink>(block: &mut Block, sink: &mut E, refusal: &Refusal) -> Result<(), Failed>
     ensures bytes { Passes (E.held sink.old) block.old (E.held sink.new) block.new result (refusal_text refusal.now) }
@@ -81,6 +157,13 @@ fn put_refusal<E: Sink>(block: &mut Block, sink: &mut E, refusal: &Refusal) -> R
         Refusal::Limit { which } => put_limit(block, sink, *which),
         Refusal::NoPower => block.put(sink, b"no power"),
         Refusal::Heavy => block.put(sink, b"heavy"),
+        Refusal::NotWeak {
+            sign,
+            whole,
+            stem,
+            accept,
+            reject,
+        } => put_not_weak(block, sink, *sign, whole, stem, accept, reject),
     }
 }
 

@@ -16,10 +16,10 @@ use std::alloc::Global;
 /// Runs the program: answers the statements of the script one after another to `out`, until the script's end or the first statement that
 /// is refused, and writes the line of a refusal to `err`. The answer says how it ended.
 ///
-/// `Unbuilt` comes if there are words, or if the formula of a statement has a real variable, declared or bound, and binds a variable.
-/// `Script` comes if the syntax or a name is wrong, `TooLarge` if a limit is passed or a construction has more than 4,194,304 cells,
-/// `NoPower` if no power of a loop's matrix comes again, `ReadFault` and `WriteFault` if a fault was counted, and `NoMemory` may come at
-/// any time before a statement's piece is written.
+/// `Unbuilt` comes if there are words, `Script` if the syntax or a name is wrong, `TooLarge` if a limit is passed or a construction has
+/// more than 4,194,304 cells, `NoPower` if no power of a loop's matrix comes again, `NotWeak` if no weak automaton has the set of a
+/// formula that binds a variable, `ReadFault` and `WriteFault` if a fault was counted, and `NoMemory` may come at any time before a
+/// statement's piece is written.
 pub fn run<S: Source, K: Sink, E: Sink>(
     alloc: Global,
     words: &[String],

@@ -30,8 +30,20 @@ fn unanswered(statement: u64, cause: Unanswered) -> Ending
     ensures { result ≡ unanswered_ending statement cause }
 {
     let refusal = match cause {
-        Unanswered::Unbuilt => return Ending::Unbuilt,
         Unanswered::Heavy => Refusal::Heavy,
+        Unanswered::NotWeak {
+            sign,
+            whole,
+            stem,
+            accept,
+            reject,
+        } => Refusal::NotWeak {
+            sign,
+            whole,
+            stem,
+            accept,
+            reject,
+        },
         Unanswered::NoPower => Refusal::NoPower,
         Unanswered::Closure { which } => Refusal::Limit { which },
         Unanswered::KeptCells => Refusal::Limit {

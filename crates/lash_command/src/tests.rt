@@ -99,20 +99,57 @@ fn refuses_wrong_statements(rt: HostRuntime) -> Result<(), Fail> {
     Ok(())
 }
 
-/// A formula with a real variable, declared or bound, that binds a variable is not built; the statements before it are answered.
+/// A formula with a real variable, declared or bound, may bind variables.
 #[test]
-fn binds_nothing_with_reals(rt: HostRuntime) -> Result<(), Fail> {
-    let line = b"lash: unbuilt\n";
-    let declared = b"check true;\nshow (x real): exists y int: 2*y <= x;\n";
-    assert!(rt; ends(rt.alloc(), declared, 9, b"true\n", line)?);
+fn binds_variables_with_reals(rt: HostRuntime) -> Result<(), Fail> {
+    let declared = b"set A (x real) = exists y int: 2*y <= x;\ntest A (1/2);\n";
+    assert!(rt; ends(rt.alloc(), declared, 0, b"in\n", b"")?);
     let bound = b"show (x int): exists y real: x <= y;";
-    assert!(rt; ends(rt.alloc(), bound, 9, b"", line)?);
-    assert!(rt; ends(rt.alloc(), b"check exists x real: x = 1;", 9, b"", line)?);
+    let all = b"lash 1\nbase 2\nvars x int\nint 1\nroots 0 0\n0 + 0 0\nend\n";
+    assert!(rt; ends(rt.alloc(), bound, 0, all, b"")?);
+    assert!(rt;
+        ends(
+            rt.alloc(),
+            b"check exists x real: x = 1;",
+            0,
+            b"true\n",
+            b""
+        )?
+    );
+    Ok(())
+}
+
+/// A number above 0 and at most x exists exactly if x is above 0: the text is that of `show (x real): x > 0;`.
+#[test]
+fn forgets_a_real_below_another(rt: HostRuntime) -> Result<(), Fail> {
+    let above =
+        b"lash 1\nbase 2\nvars x real\nint 3\nfrac 3\nroots 0 1\n0 0 0 2\n1 1 1 1\n2 2 2 2\n0 - 0 2\n1 - 1 1\n2 + 2 2\nend\n";
+    let bound = b"show (x real): exists y real: 0 < y and y <= x;";
+    assert!(rt; ends(rt.alloc(), bound, 0, above, b"")?);
+    assert!(rt; ends(rt.alloc(), b"show (x real): x > 0;", 0, above, b"")?);
+    Ok(())
+}
+
+/// The reals that are some integer, and those that have a half; a set that is a single integer, by a real that is bound; sentences.
+#[test]
+fn binds_both_sorts(rt: HostRuntime) -> Result<(), Fail> {
+    let shown = b"show (x real): exists k int: x = k;\nshow (x real): exists y real: 2*y = x;\n";
+    let texts =
+        b"lash 1\nbase 2\nvars x real\nint 1\nfrac 4\nroots 0 0\n0 0 0 0\n0 + 1 2\n1 + 1 3\n2 + 3 2\n3 - 3 3\nend\nlash 1\nbase 2\nvars x real\nint 1\nfrac 1\nroots 0 0\n0 0 0 0\n0 + 0 0\nend\n";
+    assert!(rt; ends(rt.alloc(), shown, 0, texts, b"")?);
+    let sets =
+        b"set A (x int) = x = 1;\nset B (x int) = exists y real: 2*y = x and 2 <= 4*y and 4*y <= 2;\nequal A B;\nprint B;\n";
+    let one =
+        b"yes\nlash 1\nbase 2\nvars x int\nint 3\nroots 0 1\n0 - 0 2\n1 - 1 1\n2 + 1 1\nend\n";
+    assert!(rt; ends(rt.alloc(), sets, 0, one, b"")?);
+    let sentences =
+        b"check forall x real: exists n int: n <= x and x < n + 1;\ncheck exists n int: 2*n = 1;\ncheck exists y real: 2*y = 1;\n";
+    assert!(rt; ends(rt.alloc(), sentences, 0, b"true\nfalse\ntrue\n", b"")?);
     Ok(())
 }
 
 #[test]
-fn names_and_limits_come_before_unbuilt(rt: HostRuntime) -> Result<(), Fail> {
+fn refuses_names_and_letters_beside_reals(rt: HostRuntime) -> Result<(), Fail> {
     let unknown = b"lash: statement 1: unknown name at byte 29\n";
     assert!(rt;
         ends(
@@ -132,9 +169,9 @@ fn names_and_limits_come_before_unbuilt(rt: HostRuntime) -> Result<(), Fail> {
 
 /// The pairs of a loop bind the number of iterations. Its power and the limits of its closure come first.
 #[test]
-fn keeps_no_loops_of_reals(rt: HostRuntime) -> Result<(), Fail> {
-    let script = b"loop L (x real) when x <= 10 do x := x + 1;";
-    assert!(rt; ends(rt.alloc(), script, 9, b"", b"lash: unbuilt\n")?);
+fn keeps_loops_of_reals(rt: HostRuntime) -> Result<(), Fail> {
+    let script = b"loop L (x real) when x <= 10 do x := x + 1;\ntest L (1/2, 5/2);\n";
+    assert!(rt; ends(rt.alloc(), script, 0, b"in\n", b"")?);
     let doubles = b"loop D (x real) when x <= 9 do x := 2*x;";
     assert!(rt;
         ends(

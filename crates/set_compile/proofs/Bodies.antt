@@ -1,5 +1,5 @@
 -- A body's free places are those of the whole, and behind them the bound variable's place, where the body uses it.
-use Rattle.std.proofs.Common.{◌≡◌, ℕ, zero, suc, ◌+◌, ◌<◌, List, [], ◌∷◌, ◌++◌, length, get_or, nat_eq, eqb, arith, refl, sym, ap, ap₂, ◌∙◌, subst, Bool, true, false, cond, inl, inr, IsTrue, ◌↔◌}
+use Rattle.std.proofs.Common.{◌≡◌, ℕ, zero, suc, ◌+◌, ◌<◌, List, [], ◌∷◌, ◌++◌, ◌*◌, length, get_or, nat_eq, eqb, arith, refl, sym, ap, ap₂, ◌∙◌, subst, Bool, true, false, cond, inl, inr, IsTrue, ◌↔◌}
 use Rattle.std.proofs.Math.IntN.{ℤ, pos, ◌*ℤ◌}
 use Rattle.std.specs.Prelude.{All}
 use Rattle.std.specs.List.{filter, range_with_len}
@@ -9,19 +9,22 @@ use Rattle.std.proofs.lemmas.List.Folds.{position_or_len_push}
 use Rattle.std.proofs.lemmas.List.FromFn.{filter_of_map_range_with_len_more}
 use Rattle.std.proofs.lemmas.List.Sums.{position_or_len_is}
 use Rattle.std.proofs.Math.Seq.{get_or-append_seam}
-use Rattle.integer_laws.specs.Vectors.{vector_from, vector}
-use Rattle.integer_laws.proofs.Entries.{vector_from_same}
-use Rattle.lash_model.specs.Formulas.{Formula, Exists, Int}
+use Rattle.integer_laws.specs.Vectors.{vector_from, vector, scale}
+use Rattle.integer_laws.proofs.Entries.{vector_from_same, scale-vector_from, entry-scale}
+use Rattle.integer_laws.proofs.Ring.{times_comm, times_one}
+use Rattle.lash_model.specs.Formulas.{Formula, Exists, Sort, Int, Real}
 use Rattle.lash_model.specs.Meaning.{holds}
 use Rattle.lash_model.specs.Tables.{Table}
-use Rattle.lash_model.specs.Sets.{inserted_at, set_of, bound_at}
+use Rattle.lash_model.specs.Sets.{inserted_at, set_of, bound_at, bound_by_fraction, KeepsScale}
+use Rattle.lash_model.proofs.Scaling.{holds-scale}
+use Rattle.breakpoint_laws.proofs.Standing.{bound_is_exists}
 use Rattle.formula_core.specs.Atoms.{HasLinearAtoms}
 use Rattle.formula_core.specs.Counts.{uses, free_places}
 use Rattle.set_compile.specs.Kinds.{Stands}
 use Rattle.set_compile.specs.Positions.{position_of, spread}
 use Rattle.set_compile.proofs.Modes.{stands_same}
 use Rattle.set_compile.proofs.Places.{unmapped, free_tracks}
-use Rattle.set_compile.proofs.Spreading.{Depends, entry_in, entry_past, length-spread}
+use Rattle.set_compile.proofs.Spreading.{Depends, entry_in, length-spread}
 
 -- ---- free places
 free_more : (f : Formula) (m : ℕ) → free_places f (m + 1) ≡ free_places f m ++ cond (uses m f) (m ∷ []) []
@@ -109,42 +112,98 @@ spread_more m us ns x below count = ap (λ k. vector wide k) (omega arith) ∙ v
 inserted_behind : (n : ℕ) (ns : List ℤ) (x : ℤ) → length ns ≡ n → inserted_at n x ns ≡ ns ++ x ∷ []
 inserted_behind n ns x e = ap₂ (λ a b. a ++ x ∷ b) (take_all n ns (omega (arith, e))) (drop_all n ns (omega (arith, e)))
 
+-- ---- scaled vectors
+pub scale_once : (xs : List ℤ) → scale 1 xs ≡ xs
+unfolding scale
+scale_once [] = refl
+scale_once (x ∷ xs) = ap₂ (λ y ys. y ∷ ys) (times_comm (pos 1) x ∙ times_one x) (scale_once xs)
+
+pub length-scale : (c : ℕ) (xs : List ℤ) → length (scale c xs) ≡ length xs
+unfolding scale
+length-scale c [] = refl
+length-scale c (x ∷ xs) = ap suc (length-scale c xs)
+
+pub spread_scale : (m : ℕ) (us : List ℕ) → KeepsScale (spread m us)
+spread_scale m us c ns = vector_from_same (λ p. get_or (scale c ns) (position_of us p) (pos 0)) (λ p. pos c *ℤ get_or ns (position_of us p) (pos 0)) 0 m
+    (λ p low high. entry-scale c ns (position_of us p)) ∙ sym (scale-vector_from c (λ p. get_or ns (position_of us p) (pos 0)) 0 m)
+
+-- ---- the body's numerators
+pub with_entry : (f : Formula) (m : ℕ) (ns : List ℤ) (x : ℤ) → uses m f ≡ true → length ns ≡ length (free_places f m)
+    → spread (m + 1) (free_places f (m + 1)) (inserted_at (length (free_places f m)) x ns) ≡ spread m (free_places f m) ns ++ x ∷ []
+with_entry f m ns x used count = ap₂ (spread (m + 1)) (used_more f m used) (inserted_behind (length (free_places f m)) ns x count)
+    ∙ spread_more m (free_places f m) ns x (free_tracks f m).below count
+
+-- the set of the body with its last entry bound by a whole number, and by a fraction
+pub int_entries : (f : Formula) (m : ℕ) (ns : List ℤ) (d : ℕ) → uses m f ≡ true → length ns ≡ length (free_places f m)
+    → bound_at (length (free_places f m)) (set_of f (spread (m + 1) (free_places f (m + 1)))) ns d ↔ set_of (Exists Int f) (spread m (free_places f m)) ns d
+unfolding holds
+int_entries f m ns d used count = (
+  λ h. (h.0, subst (λ zs. holds f zs d) (with_entry f m ns (h.0 *ℤ pos d) used count) h.1),
+  λ h. (h.0, subst (λ zs. holds f zs d) (sym (with_entry f m ns (h.0 *ℤ pos d) used count)) h.1),
+)
+
+pub real_entry : (f : Formula) (m c : ℕ) (ns : List ℤ) (x : ℤ) → uses m f ≡ true → length ns ≡ length (free_places f m)
+    → spread (m + 1) (free_places f (m + 1)) (inserted_at (length (free_places f m)) x (scale c ns)) ≡ inserted_at m x (scale c (spread m (free_places f m) ns))
+real_entry f m c ns x used count = with_entry f m (scale c ns) x used (length-scale c ns ∙ count)
+    ∙ ap (λ zs. zs ++ x ∷ []) (spread_scale m (free_places f m) c ns)
+    ∙ sym (inserted_behind m (scale c (spread m (free_places f m) ns)) x (length-scale c (spread m (free_places f m) ns) ∙ length-spread m (free_places f m) ns))
+
+pub real_entries : (f : Formula) (m : ℕ) (ns : List ℤ) (d : ℕ) → uses m f ≡ true → length ns ≡ length (free_places f m)
+    → bound_by_fraction (length (free_places f m)) (set_of f (spread (m + 1) (free_places f (m + 1)))) ns d ↔ set_of (Exists Real f) (spread m (free_places f m)) ns d
+real_entries f m ns d used count =
+    let zs = spread m (free_places f m) ns in
+    let both = subst (λ k. bound_by_fraction k (holds f) zs d ↔ holds (Exists Real f) zs d) (length-spread m (free_places f m) ns) (bound_is_exists f zs d) in (
+      λ h. both.0 (h.0, (h.1.0, subst (λ ys. holds f ys (suc h.0 * d)) (real_entry f m (suc h.0) ns h.1.0 used count) h.1.1)),
+      λ h. let b = both.1 h in (b.0, (b.1.0, subst (λ ys. holds f ys (suc b.0 * d)) (sym (real_entry f m (suc b.0) ns b.1.0 used count)) b.1.1)),
+    )
+
 -- ---- tables
--- the table that forgets the body's last track stands for the whole
-pub bound_stands : (t : Table) (f : Formula) (m : ℕ) → uses m f ≡ true → t.tracks ≡ length (free_places f m) → Stands t (bound_at (length (free_places f m)) (set_of f (spread (m + 1) (free_places f (m + 1))))) → Stands t (set_of (Exists Int f) (spread m (free_places (Exists Int f) m)))
+-- if the body does not use the bound variable, its table stands for the whole
+pub unbound_stands : Depends → (s : Sort) (t : Table) (f : Formula) (m : ℕ) → HasLinearAtoms f → uses m f ≡ false
+    → Stands t (set_of f (spread (m + 1) (free_places f (m + 1)))) → Stands t (set_of (Exists s f) (spread m (free_places f m)))
 unfolding holds
-bound_stands t f m used tracks s = stands_same t (bound_at (length vs) (set_of f (spread (m + 1) (free_places f (m + 1))))) (set_of (Exists Int f) (spread m vs)) (λ ns d count.
-    let e : (x : ℤ) → spread (m + 1) (free_places f (m + 1)) (inserted_at (length vs) x ns) ≡ spread m vs ns ++ x ∷ [] = λ x. same ns x (count ∙ tracks) in
-    (λ h. (h.0, subst (λ zs. holds f zs d) (e (h.0 *ℤ pos d)) h.1), λ h. (h.0, subst (λ zs. holds f zs d) (sym (e (h.0 *ℤ pos d))) h.1))) s
+unbound_stands law s t f m linear unused stands = stands_same t (set_of f (spread (m + 1) (free_places f (m + 1)))) (set_of (Exists s f) (spread m vs)) (λ ns d count. by s ns d) stands
   where
     vs : List ℕ
     vs = free_places f m
 
-    same : (ns : List ℤ) (x : ℤ) → length ns ≡ length vs → spread (m + 1) (free_places f (m + 1)) (inserted_at (length vs) x ns) ≡ spread m vs ns ++ x ∷ []
-    same ns x count = ap₂ (spread (m + 1)) (used_more f m used) (inserted_behind (length vs) ns x count) ∙ spread_more m vs ns x (free_tracks f m).below count
+    wide : List ℤ → List ℤ
+    wide ns = spread (m + 1) (free_places f (m + 1)) ns
 
--- where the body does not use the bound variable, its table stands for the whole
-pub unbound_stands : Depends → (t : Table) (f : Formula) (m : ℕ) → HasLinearAtoms f → uses m f ≡ false → Stands t (set_of f (spread (m + 1) (free_places f (m + 1)))) → Stands t (set_of (Exists Int f) (spread m (free_places (Exists Int f) m)))
-unfolding holds
-unbound_stands law t f m linear unused s = stands_same t (set_of f (spread (m + 1) (free_places f (m + 1)))) (set_of (Exists Int f) (spread m vs)) (λ ns d count.
-    (λ h. (pos 0, (same ns (pos 0 *ℤ pos d) d).0 h), λ h. (same ns (h.0 *ℤ pos d) d).1 h.1)) s
-  where
-    vs : List ℕ
-    vs = free_places f m
+    pushed : (c : ℕ) (ns : List ℤ) (x : ℤ) → length (scale c (spread m vs ns) ++ x ∷ []) ≡ m + 1
+    pushed c ns x = length-append (scale c (spread m vs ns)) (x ∷ []) ∙ ap (λ n. n + 1) (length-scale c (spread m vs ns) ∙ length-spread m vs ns)
 
-    same : (ns : List ℤ) (x : ℤ) (d : ℕ) → holds f (spread (m + 1) (free_places f (m + 1)) ns) d ↔ holds f (spread m vs ns ++ x ∷ []) d
-    same ns x d = law f (spread (m + 1) (free_places f (m + 1)) ns) (spread m vs ns ++ x ∷ []) d linear (length-spread (m + 1) (free_places f (m + 1)) ns ∙ sym (pushed ns x)) (each ns x)
-      where
-        pushed : (ns : List ℤ) (x : ℤ) → length (spread m vs ns ++ x ∷ []) ≡ m + 1
-        pushed ns x = length-append (spread m vs ns) (x ∷ []) ∙ ap (λ n. n + 1) (length-spread m vs ns)
+    kept : (ns : List ℤ) (p : ℕ) → p < m → get_or (wide ns) p (pos 0) ≡ get_or (spread m vs ns) p (pos 0)
+    kept ns p lt = entry_in (m + 1) (free_places f (m + 1)) ns p (omega (arith, lt))
+        ∙ ap (λ us. get_or ns (position_of us p) (pos 0)) (unused_more f m unused) ∙ sym (entry_in m vs ns p lt)
 
-        each : (ns : List ℤ) (x : ℤ) (p : ℕ) → IsTrue (uses p f) → get_or (spread (m + 1) (free_places f (m + 1)) ns) p (pos 0) ≡ get_or (spread m vs ns ++ x ∷ []) p (pos 0)
-        each ns x p used = elim (cases_lt p m) [
-          | inl lt ↦
-              entry_in (m + 1) (free_places f (m + 1)) ns p (omega (arith, lt))
-              ∙ ap (λ us. get_or ns (position_of us p) (pos 0)) (unused_more f m unused)
-              ∙ sym (get_or_append_left (spread m vs ns) (x ∷ []) (pos 0) p (omega (arith, lt, length-spread m vs ns)) ∙ entry_in m vs ns p lt)
-          | inr ge ↦
-              let apart : p ≡ m → ⊥ = λ e. false≢true (sym unused ∙ subst (λ q. uses q f ≡ true) e used) in
-              entry_past (m + 1) (free_places f (m + 1)) ns p (omega (arith, ge, apart)) ∙ sym (get_or_past (spread m vs ns ++ x ∷ []) p (pos 0) (omega (arith, ge, apart, pushed ns x)))
-        ]
+    each : (c : ℕ) (ns : List ℤ) (x : ℤ) (p : ℕ) → IsTrue (uses p f) → get_or (scale c (wide ns)) p (pos 0) ≡ get_or (scale c (spread m vs ns) ++ x ∷ []) p (pos 0)
+    each c ns x p used = elim (cases_lt p m) [
+      | inl lt ↦
+          entry-scale c (wide ns) p ∙ ap (λ y. pos c *ℤ y) (kept ns p lt) ∙ sym (entry-scale c (spread m vs ns) p)
+          ∙ sym (get_or_append_left (scale c (spread m vs ns)) (x ∷ []) (pos 0) p (omega (arith, lt, length-scale c (spread m vs ns), length-spread m vs ns)))
+      | inr ge ↦
+          let apart : p ≡ m → ⊥ = λ e. false≢true (sym unused ∙ subst (λ q. uses q f ≡ true) e used) in
+          get_or_past (scale c (wide ns)) p (pos 0) (omega (arith, ge, apart, length-scale c (wide ns), length-spread (m + 1) (free_places f (m + 1)) ns))
+          ∙ sym (get_or_past (scale c (spread m vs ns) ++ x ∷ []) p (pos 0) (omega (arith, ge, apart, pushed c ns x)))
+    ]
+
+    same : (c : ℕ) (ns : List ℤ) (x : ℤ) (d : ℕ) → holds f (scale c (wide ns)) d ↔ holds f (scale c (spread m vs ns) ++ x ∷ []) d
+    same c ns x d = law f (scale c (wide ns)) (scale c (spread m vs ns) ++ x ∷ []) d linear
+        (length-scale c (wide ns) ∙ length-spread (m + 1) (free_places f (m + 1)) ns ∙ sym (pushed c ns x)) (each c ns x)
+
+    once : (xs : List ℤ) → scale 1 xs ≡ xs
+    once xs = scale_once xs
+
+    whole : (ns : List ℤ) (x : ℤ) (d : ℕ) → holds f (wide ns) d ↔ holds f (spread m vs ns ++ x ∷ []) d
+    whole ns x d = let both = same 1 ns x d in (
+      λ h. subst (λ xs. holds f (xs ++ x ∷ []) d) (once (spread m vs ns)) (both.0 (subst (λ xs. holds f xs d) (sym (once (wide ns))) h)),
+      λ h. subst (λ xs. holds f xs d) (once (wide ns)) (both.1 (subst (λ xs. holds f (xs ++ x ∷ []) d) (sym (once (spread m vs ns))) h)),
+    )
+
+    by : (s : Sort) (ns : List ℤ) (d : ℕ) → holds f (wide ns) d ↔ holds (Exists s f) (spread m vs ns) d
+    by Int ns d = (λ h. (pos 0, (whole ns (pos 0 *ℤ pos d) d).0 h), λ h. (whole ns (h.0 *ℤ pos d) d).1 h.1)
+    by Real ns d = (
+      λ h. (0, (pos 0, (same 1 ns (pos 0) (1 * d)).0 ((holds-scale f 0 (wide ns) d).0 h))),
+      λ h. (holds-scale f h.0 (wide ns) d).1 ((same (suc h.0) ns h.1.0 (suc h.0 * d)).1 h.1.1),
+    )

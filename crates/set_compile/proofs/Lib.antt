@@ -3,9 +3,12 @@ pub mod Modes
 pub mod Spreading
 pub mod OwnTerms
 pub mod Bodies
+pub mod Uniting
 pub mod Making
 pub mod Refusing
-pub mod Declaring
+pub mod Refused
+pub mod Forgetting
+pub mod DeclaredSorts
 pub mod Carrying
 pub mod Products
 pub mod Opposing

@@ -1,31 +1,31 @@
 -- A node's table from those of its parts, and its first heavy step from theirs.
-use Rattle.std.proofs.Common.{ℕ, ◌≡◌, ◌+◌, ◌^◌, ◌<◌, ◌≤◌, length, true, false, arith, sym, ap, ◌∙◌, subst, IsTrue}
+use Rattle.std.proofs.Common.{ℕ, ◌≡◌, ◌+◌, ◌^◌, ◌<◌, ◌≤◌, length, true, false, arith, refl, sym, ap, ◌∙◌, subst, IsTrue}
 use Rattle.std.proofs.lemmas.Bool.{or_left, or_right}
 use Rattle.std.proofs.lemmas.Result.{IfOk-weaker}
 use Rattle.std.specs.Prelude.{IfOk, IfErr}
 use Rattle.std.specs.declared.result.Result.{Result}
 use Rattle.std.specs.declared.result.Result.TheVariants.{Ok, Err}
 use mathlib.Core.Logic.{inl, inr}
-use Rattle.lash_model.specs.Formulas.{Int, Linear, IsLinear, Formula, Comparison, Atom, Not, And, Or, Exists}
+use Rattle.lash_model.specs.Formulas.{Sort, Linear, IsLinear, Formula, Comparison, Atom, Not, And, Or, Exists}
 use Rattle.lash_model.specs.Meaning.{holds}
-use Rattle.lash_model.specs.Tables.{Table, IsDiagram}
+use Rattle.lash_model.specs.Tables.{Table}
 use Rattle.lash_model.specs.Sets.{set_of}
 use Rattle.step_tables.specs.Kept.{Kept}
 use Rattle.formula_core.specs.Counts.{uses, free_places}
 use Rattle.formula_core.specs.FewLetters.{HasFewLetters}
 use Rattle.product_ops.specs.Products.{IsHeavyProduct}
 use Rattle.product_ops.specs.declared.operation.Op.TheVariants.{And as Both, Or as Either}
-use Rattle.subset_build.specs.Projection.{kept, IsHeavyProjection}
+use Rattle.subset_build.specs.Projection.{kept}
 use Rattle.set_compile.specs.Conditions.{IsTermOver, IsOver, IsNarrow}
-use Rattle.set_compile.specs.Kinds.{IsOfMode, Stands, AcceptOthers, IsHeavyFor, IsShaped}
+use Rattle.set_compile.specs.Kinds.{Stands, AcceptOthers, IsHeavyFor, IsShaped}
 use Rattle.set_compile.specs.Positions.{shared, spread}
-use Rattle.set_compile.specs.Steps.{own, IsOfAtom, IsOfPairs, IsOfSubsets, IsMade, IsFirstHeavy}
+use Rattle.set_compile.specs.Steps.{own, IsOfAtom, IsOfPairs, IsForgotten, IsForgettingRefused, IsMade, IsFirstRefused}
 use Rattle.set_compile.specs.declared.build.Build.{Build}
-use Rattle.set_compile.specs.declared.build.Mode.TheVariants.{Whole}
 use Rattle.set_compile.specs.declared.errors.CompileError.{CompileError}
-use Rattle.set_compile.specs.declared.errors.CompileError.TheVariants.{Heavy}
+use Rattle.set_compile.specs.declared.errors.CompileError.TheVariants.{Heavy, Memory}
 use Rattle.set_compile.proofs.OwnTerms.{free_count, own_stands}
 use Rattle.set_compile.proofs.Bodies.{used_count, tells_used, tells_unused}
+use Rattle.set_compile.proofs.Forgetting.{forgetting_shows}
 use Rattle.set_compile.proofs.Making.{one_more, shape_of}
 
 -- ---- results
@@ -36,6 +36,10 @@ both_ok (Err e) P Q R h p q = q
 pub err_weaker : {T E : Type 0} (r : Result T E) (P Q : E → Type 0) → ((e : E) → P e → Q e) → IfErr r P → IfErr r Q
 err_weaker (Ok x) P Q h p = p
 err_weaker (Err e) P Q h p = h e p
+
+pub both_err : {T E : Type 0} (r : Result T E) (P Q R : E → Type 0) → ((e : E) → P e → Q e → R e) → IfErr r P → IfErr r Q → IfErr r R
+both_err (Ok x) P Q R h p q = q
+both_err (Err e) P Q R h p q = h e p q
 
 -- ---- letters
 pub is_narrow : (base m : ℕ) (f : Formula) → HasFewLetters base f m → IsNarrow base m f
@@ -65,10 +69,13 @@ atom_stands kind m a f is h over r stands =
     subst (λ f. IfOk r (λ k. Stands k.table (set_of f (spread m (free_places f m))))) (sym is)
     (IfOk-weaker r _ _ (λ k s. own_stands kind k.table a m h (subst (IsOver m) is over) s) stands)
 
-pub atom_heavy : {T : Type 0} (b : Build) (kind : Comparison) (m : ℕ) (a : Linear) (f : Formula) → f ≡ Atom kind a → IsLinear a → IsOver m f → (r : Result T CompileError) → IfErr r (λ e. e ≡ Heavy → IsHeavyFor b.mode kind (own a) b.base (length a.terms) b.limit) → IfErr r (λ e. e ≡ Heavy → IsFirstHeavy b m f)
-atom_heavy b kind m a f is h over r heavy =
-    subst (λ f. IfErr r (λ e. e ≡ Heavy → IsFirstHeavy b m f)) (sym is)
-    (subst (λ n. IfErr r (λ e. e ≡ Heavy → IsHeavyFor b.mode kind (own a) b.base n b.limit)) (sym (free_count kind a m h (subst (IsOver m) is over).places)) heavy)
+pub atom_refused : {T : Type 0} (b : Build) (kind : Comparison) (m : ℕ) (a : Linear) (f : Formula) → f ≡ Atom kind a → IsLinear a → IsOver m f → (r : Result T CompileError)
+    → IfErr r (λ e. e ≡ Heavy → IsHeavyFor b.mode kind (own a) b.base (length a.terms) b.limit) → IfErr r (λ e. (e ≡ Memory → ⊥) → e ≡ Heavy)
+    → IfErr r (λ e. (e ≡ Memory → ⊥) → IsFirstRefused b m f e)
+atom_refused b kind m a f is h over r heavy plain =
+    subst (λ f. IfErr r (λ e. (e ≡ Memory → ⊥) → IsFirstRefused b m f e)) (sym is)
+    (both_err r _ _ _ (λ e x y no. (y no, x (y no)))
+    (subst (λ n. IfErr r (λ e. e ≡ Heavy → IsHeavyFor b.mode kind (own a) b.base n b.limit)) (sym (free_count kind a m h (subst (IsOver m) is over).places)) heavy) plain)
 
 -- ---- negations
 pub not_made : (b : Build) (m : ℕ) (f : Formula) (u t : Table) → IsMade b m f u → IsShaped b.mode u.base u.tracks t → AcceptOthers u t → IsMade b m (Not f) t
@@ -89,29 +96,15 @@ and_made b m f g u v t left right shape joins = (record { canonical = shape.cano
 pub or_made : (b : Build) (m : ℕ) (f g : Formula) (u v t : Table) → IsMade b m f u → IsMade b m g v → IsShaped b.mode u.base (length (free_places (Or f g) m)) t → IsOfPairs Either u v (shared (Or f g) f g m) b.limit t → IsMade b m (Or f g) t
 or_made b m f g u v t left right shape joins = (record { canonical = shape.canonical; kind = shape.kind; base_is = shape.base_is ∙ (shape_of b m f u left).base_is; tracks_are = shape.tracks_are }, (u, (v, ((left, right), joins))))
 
-pub and_left_heavy : (b : Build) (m : ℕ) (f g : Formula) → IsFirstHeavy b m f → IsFirstHeavy b m (And f g)
-and_left_heavy b m f g h = inl h
+pub and_pairs_refused : (b : Build) (m : ℕ) (f g : Formula) (u v : Table) (e : CompileError) → IsMade b m f u → IsMade b m g v → e ≡ Heavy
+    → IsHeavyProduct u v (shared (And f g) f g m) b.limit → IsFirstRefused b m (And f g) e
+and_pairs_refused b m f g u v e left right is h = inr (inr (is, (u, (v, ((left, right), h)))))
 
-pub or_left_heavy : (b : Build) (m : ℕ) (f g : Formula) → IsFirstHeavy b m f → IsFirstHeavy b m (Or f g)
-or_left_heavy b m f g h = inl h
-
-pub and_right_heavy : (b : Build) (m : ℕ) (f g : Formula) (u : Table) → IsMade b m f u → IsFirstHeavy b m g → IsFirstHeavy b m (And f g)
-and_right_heavy b m f g u left h = inr (inl ((u, left), h))
-
-pub or_right_heavy : (b : Build) (m : ℕ) (f g : Formula) (u : Table) → IsMade b m f u → IsFirstHeavy b m g → IsFirstHeavy b m (Or f g)
-or_right_heavy b m f g u left h = inr (inl ((u, left), h))
-
-pub and_pairs_heavy : (b : Build) (m : ℕ) (f g : Formula) (u v : Table) → IsMade b m f u → IsMade b m g v → IsHeavyProduct u v (shared (And f g) f g m) b.limit → IsFirstHeavy b m (And f g)
-and_pairs_heavy b m f g u v left right h = inr (inr (u, (v, ((left, right), h))))
-
-pub or_pairs_heavy : (b : Build) (m : ℕ) (f g : Formula) (u v : Table) → IsMade b m f u → IsMade b m g v → IsHeavyProduct u v (shared (Or f g) f g m) b.limit → IsFirstHeavy b m (Or f g)
-or_pairs_heavy b m f g u v left right h = inr (inr (u, (v, ((left, right), h))))
+pub or_pairs_refused : (b : Build) (m : ℕ) (f g : Formula) (u v : Table) (e : CompileError) → IsMade b m f u → IsMade b m g v → e ≡ Heavy
+    → IsHeavyProduct u v (shared (Or f g) f g m) b.limit → IsFirstRefused b m (Or f g) e
+or_pairs_refused b m f g u v e left right is h = inr (inr (is, (u, (v, ((left, right), h)))))
 
 -- ---- bound variables
--- a table that reads words is a diagram
-pub body_diagram : (b : Build) (m : ℕ) (f : Formula) (u : Table) → b.mode ≡ Whole → IsMade b m f u → IsDiagram u
-body_diagram b m f u whole made = subst (λ mode. IsOfMode mode u) whole (shape_of b m f u made).kind
-
 -- whether the body's table has as many tracks as the whole has free places tells whether the body uses the bound variable
 pub bound_used : (b : Build) (m : ℕ) (f : Formula) (u : Table) → IsMade b (m + 1) f u → (u.tracks ≡ length (free_places f m) → ⊥) → uses m f ≡ true
 bound_used b m f u made other = tells_used f m (λ e. other ((shape_of b (m + 1) f u made).tracks_are ∙ e))
@@ -125,15 +118,16 @@ last_track b m f u made used = one_more b.mode b.base f m u used (shape_of b (m 
 pub track_in : (b : Build) (m : ℕ) (f : Formula) (u : Table) (track : ℕ) → IsMade b (m + 1) f u → uses m f ≡ true → track ≡ length (free_places f m) → track < u.tracks
 track_in b m f u track made used e = omega (arith, e, (shape_of b (m + 1) f u made).tracks_are, used_count f m used)
 
-pub unbound_made : (b : Build) (m : ℕ) (f : Formula) (u : Table) → IsMade b (m + 1) f u → uses m f ≡ false → IsMade b m (Exists Int f) u
-unbound_made b m f u made unused = inr (unused, made)
+pub unbound_made : (b : Build) (s : Sort) (m : ℕ) (f : Formula) (u : Table) → IsMade b (m + 1) f u → uses m f ≡ false → IsMade b m (Exists s f) u
+unbound_made b s m f u made unused = inr (unused, made)
 
-pub bound_made : (b : Build) (m : ℕ) (f : Formula) (u t : Table) → IsMade b (m + 1) f u → uses m f ≡ true → IsShaped b.mode u.base (kept u) t → IsOfSubsets b.mode u (length (free_places f m)) b.limit t → IsMade b m (Exists Int f) t
-bound_made b m f u t made used shape subsets =
-    inl (used, (record { canonical = shape.canonical; kind = shape.kind; base_is = shape.base_is ∙ (shape_of b (m + 1) f u made).base_is; tracks_are = shape.tracks_are ∙ last_track b m f u made used }, (u, (made, subsets))))
+pub body_shape : (b : Build) (m : ℕ) (f : Formula) (u : Table) → IsMade b (m + 1) f u → uses m f ≡ true → IsShaped b.mode b.base (length (free_places f m) + 1) u
+body_shape b m f u made used = subst (λ k. IsShaped b.mode b.base k u) (used_count f m used) (shape_of b (m + 1) f u made)
 
-pub body_heavy : (b : Build) (m : ℕ) (f : Formula) → IsFirstHeavy b (m + 1) f → IsFirstHeavy b m (Exists Int f)
-body_heavy b m f h = inl h
+pub bound_made : (b : Build) (s : Sort) (m : ℕ) (f : Formula) (u t : Table) → IsMade b (m + 1) f u → uses m f ≡ true → IsShaped b.mode b.base (length (free_places f m)) t
+    → IsForgotten b.mode s b (length (free_places f m)) u t → IsMade b m (Exists s f) t
+bound_made b s m f u t made used shape steps = inl (used, (shape, (u, (made, steps))))
 
-pub subsets_heavy : (b : Build) (m : ℕ) (f : Formula) (u : Table) → IsMade b (m + 1) f u → uses m f ≡ true → IsHeavyProjection u (length (free_places f m)) b.limit → IsFirstHeavy b m (Exists Int f)
-subsets_heavy b m f u made used h = inr (used, (u, (made, h)))
+pub bound_refused : (b : Build) (s : Sort) (m : ℕ) (f : Formula) (u : Table) (e : CompileError) → IsMade b (m + 1) f u → uses m f ≡ true
+    → Stands u (set_of f (spread (m + 1) (free_places f (m + 1)))) → IsForgettingRefused b.mode s b (length (free_places f m)) u e → IsFirstRefused b m (Exists s f) e
+bound_refused b s m f u e made used stands h = inr (used, (u, (made, (h, forgetting_shows b.mode s b m f u e refl used (body_shape b m f u made used) h stands))))

@@ -19,12 +19,12 @@ use Rattle.product_ops.specs.declared.operation.Op.TheVariants.{And as Both}
 use Rattle.product_ops.proofs.AllTracks.{tracks_are, picked}
 use Rattle.product_ops.proofs.LassoReading.{reads_lassos}
 use Rattle.product_ops.proofs.MixedJoining.{mixed_product_stands}
-use Rattle.set_compile.specs.Compiling.{IsOfWholes, with_track, IsWholeAt, AreWholeFrom, IsHeavyFrom}
+use Rattle.set_compile.specs.Compiling.{AreWholeFrom, IsHeavyFrom}
 use Rattle.set_compile.specs.Kinds.{IsOfMode, GivesBoth, IsShaped}
-use Rattle.set_compile.specs.Steps.{IsOfPairs}
+use Rattle.set_compile.specs.Steps.{IsOfPairs, IsOfWholes, with_track, IsWholeAt, IsHeavyAt}
 use Rattle.set_compile.specs.declared.build.Build.{Build}
 use Rattle.set_compile.specs.declared.build.Mode.TheVariants.{Mixed}
-use Rattle.set_compile.proofs.Making.{base_low, one_join}
+use Rattle.set_compile.proofs.Uniting.{base_low, one_join}
 use Rattle.set_compile.proofs.Modes.{as_mixed, stands_same, same_shape, accept_same}
 use Rattle.set_compile.proofs.Refusing.{PairsExclude}
 
@@ -44,7 +44,7 @@ one_wholes b t u mixed ht hu = same_shape b.mode b.base 1 t u ht.shape hu.shape
 own_tracks : (b : Build) (m : ℕ) (u : Table) → IsShaped b.mode b.base m u → IsShaped b.mode b.base u.tracks u
 own_tracks b m u s = subst (λ n. IsShaped b.mode b.base n u) (sym s.tracks_are) s
 
-one_at : (b : Build) (m place : ℕ) (u t v : Table) → b.mode ≡ Mixed → IsShaped b.mode b.base m u → IsWholeAt b m place u t → IsWholeAt b m place u v → t ≡ v
+pub one_at : (b : Build) (m place : ℕ) (u t v : Table) → b.mode ≡ Mixed → IsShaped b.mode b.base m u → IsWholeAt b m place u t → IsWholeAt b m place u v → t ≡ v
 one_at b m place u t v mixed s ht hv =
     let same : hv.wholes ≡ ht.wholes = one_wholes b hv.wholes ht.wholes mixed hv.wholes_made ht.wholes_made in
     one_join Both b.mode b.base b.limit (with_track m place) u ht.wholes t v (own_tracks b m u s) ht.shape hv.shape ht.joins
@@ -96,6 +96,12 @@ at_stands b m place u t P mixed lt few s h p = by h.joins.gives
         let e : pick_entries (range_with_len 0 m) ns ≡ ns = picked m ns (count ∙ h.shape.tracks_are) in
         (λ x. (subst (λ ms. P ms d) e x.0, x.1), λ y. (subst (λ ms. P ms d) (sym e) y.0, y.1))) (inr both))
 
+pub not_at : PairsExclude → (b : Build) (m place : ℕ) (u t : Table) → b.mode ≡ Mixed → IsHeavyAt b m place u → IsWholeAt b m place u t → ⊥
+not_at law b m place u t mixed (inl lt) at = omega (arith, lt, at.wholes_made.within)
+not_at law b m place u t mixed (inr h) at =
+    let same = one_wholes b h.0 at.wholes mixed h.1.0 at.wholes_made in
+    law Both u at.wholes (with_track m place) b.limit at.joins.pair_table (subst (λ w. IsHeavyProduct u w (with_track m place) b.limit) same h.1.1) at.joins.counts
+
 -- ---- all integer variables
 -- the numerators at the places of the integers among the sorts, of which the first is at the place, are multiples of d
 abbrev pub WholeFrom : ℕ → List Sort → List ℤ → ℕ → Type 0
@@ -119,6 +125,11 @@ from_stands b m place (Int ∷ sorts) u t P mixed lt few s h p =
     (λ ns d count. (λ x. (x.0.0, (x.0.1, x.1)), λ y. ((y.0, y.1.0), y.1.1))) (inr rest))
 from_stands b m place (Real ∷ sorts) u t P mixed lt few s h p = from_stands b m (place + 1) sorts u t P mixed (omega (arith, lt)) few s h p
 
+pub from_shape : (b : Build) (m place : ℕ) (sorts : List Sort) (u t : Table) → IsShaped b.mode b.base m u → AreWholeFrom b m place sorts u t → IsShaped b.mode b.base m t
+from_shape b m place [] u t s h = subst (IsShaped b.mode b.base m) (sym h) s
+from_shape b m place (Int ∷ sorts) u t s h = from_shape b m (place + 1) sorts h.0 t h.1.0.shape h.1.1
+from_shape b m place (Real ∷ sorts) u t s h = from_shape b m (place + 1) sorts u t s h
+
 pub one_from : (b : Build) (m place : ℕ) (sorts : List Sort) (u t v : Table) → b.mode ≡ Mixed → IsShaped b.mode b.base m u → AreWholeFrom b m place sorts u t
     → AreWholeFrom b m place sorts u v → t ≡ v
 one_from b m place [] u t v mixed s ht hv = ht ∙ sym hv
@@ -130,11 +141,7 @@ one_from b m place (Real ∷ sorts) u t v mixed s ht hv = one_from b m (place + 
 pub not_from : PairsExclude → (b : Build) (m place : ℕ) (sorts : List Sort) (u t : Table) → b.mode ≡ Mixed → IsShaped b.mode b.base m u
     → IsHeavyFrom b m place sorts u → AreWholeFrom b m place sorts u t → ⊥
 not_from law b m place [] u t mixed s h made = h
-not_from law b m place (Int ∷ sorts) u t mixed s (inl (inl lt)) made = omega (arith, lt, made.1.0.wholes_made.within)
-not_from law b m place (Int ∷ sorts) u t mixed s (inl (inr h)) made =
-    let at = made.1.0 in
-    let same = one_wholes b h.0 at.wholes mixed h.1.0 at.wholes_made in
-    law Both u at.wholes (with_track m place) b.limit at.joins.pair_table (subst (λ w. IsHeavyProduct u w (with_track m place) b.limit) same h.1.1) at.joins.counts
+not_from law b m place (Int ∷ sorts) u t mixed s (inl h) made = not_at law b m place u made.0 mixed h made.1.0
 not_from law b m place (Int ∷ sorts) u t mixed s (inr h) made =
     let same : h.0 ≡ made.0 = one_at b m place u h.0 made.0 mixed s h.1.0 made.1.0 in
     not_from law b m (place + 1) sorts made.0 t mixed made.1.0.shape (subst (λ w. IsHeavyFrom b m (place + 1) sorts w) same h.1.1) made.1.1

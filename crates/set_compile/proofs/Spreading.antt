@@ -128,7 +128,7 @@ or_stands law t f g m lf lg s = stands_same t _ (set_of (Or f g) (spread m (free
     let right = part_reads law (Or f g) g m ns d lg in
     (λ x. elim x [ inl a ↦ inl (left.0 a) | inr b ↦ inr (right.0 b) ], λ y. elim y [ inl a ↦ inl (left.1 a) | inr b ↦ inr (right.1 b) ])) s
 
-always_holds : (ns : List ℤ) (d : ℕ) → holds always ns d
+pub always_holds : (ns : List ℤ) (d : ℕ) → holds always ns d
 unfolding holds total
 always_holds ns d = subst (λ z. (pos 0) ≤ℤ z) (sym (times_comm (pos 0) (pos d) ∙ times_zero (pos d))) (omega (arith, ints))
 

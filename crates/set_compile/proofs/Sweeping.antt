@@ -4,7 +4,8 @@ use mathlib.Core.Logic.{inl, inr}
 use Rattle.std.proofs.lemmas.List.{drop_more, drop_all, get_or-map, length-map}
 use Rattle.lash_model.specs.Formulas.{Sort, Int, Real}
 use Rattle.lash_model.specs.Tables.{Table}
-use Rattle.set_compile.specs.Compiling.{IsWholeAt, AreWholeFrom, IsHeavyAt, IsHeavyFrom}
+use Rattle.set_compile.specs.Compiling.{AreWholeFrom, IsHeavyFrom}
+use Rattle.set_compile.specs.Steps.{IsWholeAt, IsHeavyAt}
 use Rattle.set_compile.specs.Kinds.{IsShaped}
 use Rattle.formula_core.specs.Variables.{sort_of}
 use Rattle.formula_core.specs.declared.sort.Sort.{Sort as DeclaredSort}

@@ -10,8 +10,10 @@ use Rattle.product_ops.specs.Tracks.{TrackLists}
 use Rattle.product_ops.specs.declared.operation.Op.TheVariants.{And as Both}
 use Rattle.set_compile.specs.Conditions.{IsTermOver, IsNarrow}
 use Rattle.set_compile.specs.Kinds.{IsShaped}
-use Rattle.set_compile.specs.Steps.{IsOfPairs, IsMade, IsFirstHeavy, HasHeavyPairs, always, all_tracks, IsWidened, IsWideHeavy}
+use Rattle.set_compile.specs.Steps.{IsOfPairs, IsMade, IsFirstRefused, HasHeavyPairs, always, all_tracks, IsWidened, IsWideRefused}
 use Rattle.set_compile.specs.declared.build.Build.{Build}
+use Rattle.set_compile.specs.declared.errors.CompileError.{CompileError}
+use Rattle.set_compile.specs.declared.errors.CompileError.TheVariants.{Heavy}
 use Rattle.set_compile.proofs.Spreading.{at_most_all}
 use Rattle.set_compile.proofs.OwnTerms.{free_heads}
 use Rattle.set_compile.proofs.Making.{shape_of}
@@ -54,6 +56,7 @@ fewer_free f m n e other = less (length (free_places f m)) (at_most_all (λ p. u
     less : (k : ℕ) → k ≤ m → (k ≡ m → ⊥) → k < m
     less k le not_same = grind arith
 
-pub heavy_later : (b : Build) (m : ℕ) (f : Formula) (u : Table) → length (free_places f m) < m → IsMade b m f u → IsFirstHeavy b m always ⊎ HasHeavyPairs b m f always (all_tracks f m) → IsWideHeavy b m f
-heavy_later b m f u lt made (inl h) = inr (lt, inl ((u, made), h))
-heavy_later b m f u lt made (inr h) = inr (lt, inr h)
+pub refused_later : (b : Build) (m : ℕ) (f : Formula) (u : Table) (e : CompileError) → length (free_places f m) < m → IsMade b m f u
+    → IsFirstRefused b m always e ⊎ ((e ≡ Heavy) × HasHeavyPairs b m f always (all_tracks f m)) → IsWideRefused b m f e
+refused_later b m f u e lt made (inl h) = inr (lt, inl ((u, made), h))
+refused_later b m f u e lt made (inr h) = inr (lt, inr h)

@@ -1,5 +1,5 @@
--- The formulas that are compiled: over so many variables, with atoms inside the limits. Those with real variables bind none.
-use Rattle.std.specs.Prelude.{ℕ, ◌+◌, ◌<◌, ◌≡◌, Bool, true, false, ◌&&◌, ◌||◌, if◌then◌else◌, List, All, length}
+-- The formulas that are compiled: over so many variables, with atoms inside the limits.
+use Rattle.std.specs.Prelude.{ℕ, ◌+◌, ◌<◌, ◌≡◌, Bool, ◌&&◌, if◌then◌else◌, List, All, length}
 use Rattle.std.specs.List.{list_all}
 use Rattle.lash_model.specs.Formulas.{Sort, Int, Linear, IsInside, Formula, Atom, Not, And, Or, Exists}
 use Rattle.formula_core.specs.Counts.{free_places, is_int, binds_ints}
@@ -20,14 +20,6 @@ IsOver m (And f g) = IsOver m f × IsOver m g
 IsOver m (Or f g) = IsOver m f × IsOver m g
 IsOver m (Exists s f) = IsOver (m + 1) f
 
--- some variable is bound
-abbrev pub has_bound : Formula → Bool
-has_bound (Atom kind a) = false
-has_bound (Not f) = has_bound f
-has_bound (And f g) = has_bound f || has_bound g
-has_bound (Or f g) = has_bound f || has_bound g
-has_bound (Exists s f) = true
-
 -- all variables are integers, declared and bound
 abbrev pub are_integers : List Sort → Formula → Bool
 are_integers sorts f = list_all is_int sorts && binds_ints f
@@ -36,17 +28,13 @@ are_integers sorts f = list_all is_int sorts && binds_ints f
 abbrev pub mode_of : List Sort → Formula → Mode
 mode_of sorts f = if are_integers sorts f then Whole else Mixed
 
--- the formulas whose tables are built so far: with real variables, declared or bound, only those that bind none
-abbrev pub IsBuilt : List Sort → Formula → Type 0
-IsBuilt sorts f = are_integers sorts f ≡ false → has_bound f ≡ false
-
--- what tables that read words bind: integers. Tables that read lassos bind nothing so far
+-- tables that read words bind integers alone
 abbrev pub Binds : Mode → Formula → Type 0
 Binds mode (Atom kind a) = Unit {0}
 Binds mode (Not f) = Binds mode f
 Binds mode (And f g) = Binds mode f × Binds mode g
 Binds mode (Or f g) = Binds mode f × Binds mode g
-Binds mode (Exists s f) = (mode ≡ Whole) × ((s ≡ Int) × Binds mode f)
+Binds mode (Exists s f) = (mode ≡ Whole → s ≡ Int) × Binds mode f
 
 -- at each node the letters over the free variables are few: what `HasFewLetters` says, and it unfolds by itself
 abbrev pub IsNarrow : ℕ → ℕ → Formula → Type 0

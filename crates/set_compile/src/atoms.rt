@@ -95,6 +95,7 @@ pub fn atom_part(
     ensures made { IfOk result (λ c. IsOfAtom build.now (comparison_of kind) (own term.now) (length term.now.terms) c.table) }
     ensures stands { IfOk result (λ c. Stands c.table (holds (Atom (comparison_of kind) (own term.now)))) }
     ensures heavy { IfErr result (λ e. e ≡ CompileError.Heavy → IsHeavyFor build.now.mode (comparison_of kind) (own term.now) build.now.base (length term.now.terms) build.now.limit) }
+    ensures plain { IfErr result (λ e. (e ≡ CompileError.Memory → ⊥) → e ≡ CompileError.Heavy) }
 {
     let base = build.base;
     let _radix = base.radix();

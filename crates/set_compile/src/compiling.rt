@@ -1,5 +1,6 @@
-//! A formula's canonical table over all its declared variables: over its free ones by a step for each node (Boudet and Comon), from there
-//! to all by one product, and with real variables by two steps more for each integer variable.
+//! A formula's canonical table over all its declared variables: over its free ones by a step for each node (Boudet and Comon; for reals
+//! Boigelot, Jodogne and Wolper), from there to all by one product, and from a table that reads lassos the vectors that are whole at the
+//! integer variables.
 
 ghost use Rattle.std.specs.Prelude.{◌≡◌, ◌<◌, ◌≤◌, ◌^◌, ◌⊎◌, ℕ, ℤ, List, IsTrue, ◌↔◌, map, length, IfOk, IfErr, OnOk};
 ghost use Rattle.lash_model.specs.Meaning.{holds};
@@ -12,16 +13,16 @@ ghost use Rattle.formula_core.specs.FewLetters.{FitsLetters, HasFewLetters};
 ghost use Rattle.formula_core.specs.Shape.{formula_of};
 ghost use Rattle.formula_core.specs.Variables.{sort_of};
 ghost use Rattle.set_compile.specs.Compiling.{IsCompiled, IsRefused};
-ghost use Rattle.set_compile.specs.Conditions.{IsOver, IsBuilt, Binds, IsNarrow, mode_of as mode_of_model};
+ghost use Rattle.set_compile.specs.Conditions.{IsOver, Binds, IsNarrow, mode_of as mode_of_model};
 ghost use Rattle.set_compile.specs.Kinds.{Stands, IsShaped};
 ghost use Rattle.set_compile.specs.Positions.{spread};
-ghost use Rattle.set_compile.specs.Steps.{IsMade, IsWidened, IsWide, IsWideHeavy, IsFirstHeavy, HasHeavyPairs, always, all_tracks};
+ghost use Rattle.set_compile.specs.Steps.{IsMade, IsWidened, IsWide, IsWideRefused, IsFirstRefused, HasHeavyPairs, always, all_tracks};
 
 use crate::CompileError;
 use crate::build::{Build, Mode};
+use crate::declaring::declared;
 use crate::joining::join;
 use crate::nodes::part;
-use crate::wholes::with_wholes;
 use digit_codes::Base;
 use formula_core::{Formula, Linear, Sort, all_int, depends_on_free_places, free_vars};
 use lash_io::Memory;
@@ -41,7 +42,7 @@ fn always_part(alloc: Global, build: &Build, places: u32) -> Result<Canon, Compi
     requires { build.now.limit ≤ 16777216 }
     ensures made { IfOk result (λ c. IsMade build.now places always c.table) }
     ensures stands { IfOk result (λ c. Stands c.table (set_of always (spread places (free_places always places)))) }
-    ensures heavy { IfErr result (λ e. e ≡ CompileError.Heavy → IsFirstHeavy build.now places always) }
+    ensures refused { IfErr result (λ e. (e ≡ CompileError.Memory → ⊥) → IsFirstRefused build.now places always e) }
 {
     let formula = truth(alloc);
     match part(alloc, build, &formula, places) {
@@ -75,7 +76,8 @@ fn widened(
     requires stands { Stands made.now.table (set_of (formula_of formula.now) (spread places (free_places (formula_of formula.now) places))) }
     ensures widened { IfOk result (λ c. IsWidened build.now places (formula_of formula.now) c.table) }
     ensures stands { IfOk result (λ c. Stands c.table (holds (formula_of formula.now))) }
-    ensures heavy { IfErr result (λ e. e ≡ CompileError.Heavy → IsFirstHeavy build.now places always ⊎ HasHeavyPairs build.now places (formula_of formula.now) always (all_tracks (formula_of formula.now) places)) }
+    ensures refused { IfErr result (λ e. (e ≡ CompileError.Memory → ⊥) → IsFirstRefused build.now places always e
+        ⊎ ((e ≡ CompileError.Heavy) × HasHeavyPairs build.now places (formula_of formula.now) always (all_tracks (formula_of formula.now) places))) }
 {
     depends_on_free_places();
     let whole = match always_part(alloc, build, places) {
@@ -108,7 +110,7 @@ fn on_all_tracks(
     ensures shape { IfOk result (λ c. IsShaped build.now.mode build.now.base places c.table) }
     ensures made { IfOk result (λ c. IsWide build.now places (formula_of formula.now) c.table) }
     ensures stands { IfOk result (λ c. Stands c.table (holds (formula_of formula.now))) }
-    ensures heavy { IfErr result (λ e. e ≡ CompileError.Heavy → IsWideHeavy build.now places (formula_of formula.now)) }
+    ensures refused { IfErr result (λ e. (e ≡ CompileError.Memory → ⊥) → IsWideRefused build.now places (formula_of formula.now) e) }
 {
     depends_on_free_places();
     let made = match part(alloc, build, formula, places) {
@@ -139,9 +141,10 @@ fn mode_of(sorts: &[Sort], formula: &Formula) -> Mode
 /// all declared variables are integers, and else a table with fraction states.
 ///
 /// As conditions, the formula is over the declared variables, its terms are inside the limits of coefficients and constants, its letters
-/// are few, it binds no variable unless all variables are integers, declared and bound, and the limit of cells is at most 16,777,216.
-/// `Heavy` comes exactly if a step passes the limit, at the first that does. A bound variable that its body does not use costs no step.
-/// `Memory` comes if the program is out of memory, and also if more than 2^32 - 1 variables are bound in one another.
+/// are few, and the limit of cells is at most 16,777,216. The answer is that of the first step that is refused: `Heavy` exactly if it
+/// passes the limit, and `NotWeak` exactly if it does not, binds a variable of a table that reads lassos, and no weak automaton has its
+/// set, which the five words show. A bound variable that its body does not use costs no step. `Memory` comes if the program is out of
+/// memory, and also if more than 2^32 - 1 variables are bound in one another.
 pub fn compile(
     alloc: Global,
     base: Base,
@@ -150,7 +153,6 @@ pub fn compile(
     limit: u64,
 ) -> Result<Canon, CompileError>
     requires over { IsOver (length sorts.now) (formula_of formula.now) }
-    requires built { IsBuilt (map sort_of sorts.now) (formula_of formula.now) }
     requires letters { FitsLetters base (formula_of formula.now) (length sorts.now) }
     requires limit { limit ≤ 16777216 }
     ensures stands { IfOk result (λ c. StandsFor c.table (map sort_of sorts.now) (formula_of formula.now)) }
@@ -158,7 +160,7 @@ pub fn compile(
     ensures base { IfOk result (λ c. c.table.base ≡ base) }
     ensures tracks { IfOk result (λ c. c.table.tracks ≡ length sorts.now) }
     ensures made { IfOk result (λ c. IsCompiled base limit (map sort_of sorts.now) (formula_of formula.now) c.table) }
-    ensures heavy { IfErr result (λ e. e ≡ CompileError.Heavy → IsRefused base limit (map sort_of sorts.now) (formula_of formula.now)) }
+    ensures refused { IfErr result (λ e. (e ≡ CompileError.Memory → ⊥) → IsRefused base limit (map sort_of sorts.now) (formula_of formula.now) e) }
 {
     let _radix = base.radix();
     let mode = mode_of(sorts, formula);
@@ -170,6 +172,6 @@ pub fn compile(
     };
     match mode {
         Mode::Whole => Ok(wide),
-        Mode::Mixed => with_wholes(alloc, &build, sorts, wide),
+        Mode::Mixed => declared(alloc, &build, sorts, wide),
     }
 }

@@ -37,6 +37,7 @@ pub fn join(
     ensures made { IfOk result (λ c. IsOfPairs op left.now.table right.now.table map.now limit c.table) }
     ensures stands { IfOk result (λ c. (f g : Formula) (s u : List ℤ → List ℤ) → Stands left.now.table (set_of f s) → Stands right.now.table (set_of g u) → Stands c.table (joined op (set_of f s) (set_of g u) map.now)) }
     ensures heavy { IfErr result (λ e. e ≡ CompileError.Heavy → IsHeavyProduct left.now.table right.now.table map.now limit) }
+    ensures plain { IfErr result (λ e. (e ≡ CompileError.Memory → ⊥) → e ≡ CompileError.Heavy) }
 {
     let table = match product(alloc, left.table(), right.table(), map, op, limit) {
         Ok(table) => table,

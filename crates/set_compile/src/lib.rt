@@ -4,8 +4,8 @@
 mod atoms;
 mod binding;
 mod build;
-mod built;
 mod compiling;
+mod declaring;
 mod errors;
 mod joining;
 mod laws;
@@ -16,10 +16,9 @@ mod positions;
 mod wholes;
 
 pub use build::Mode;
-pub use built::is_built;
 pub use compiling::compile;
 pub use errors::CompileError;
-pub use laws::{heavy_or_compiled, tables_are_unique};
+pub use laws::{refusals_are_one, refused_or_compiled, tables_are_unique};
 
 #[cfg(test)]
 mod tests;

@@ -12,7 +12,7 @@ ghost use Rattle.product_ops.specs.Products.{HaveSameKind, IsHeavyProduct};
 ghost use Rattle.set_compile.specs.Conditions.{IsOver, Binds, IsNarrow};
 ghost use Rattle.set_compile.specs.Kinds.{IsOfMode, Stands, IsShaped};
 ghost use Rattle.set_compile.specs.Positions.{shared, spread};
-ghost use Rattle.set_compile.specs.Steps.{IsOfPairs, IsMade, IsFirstHeavy};
+ghost use Rattle.set_compile.specs.Steps.{IsOfPairs, IsMade, IsFirstRefused};
 
 use crate::CompileError;
 use crate::atoms::atom_part;
@@ -51,6 +51,7 @@ fn joined(
     ensures made { IfOk result (λ c. IsOfPairs op left.entry.1.now.table right.entry.1.now.table (shared (formula_of whole.now) (formula_of left.entry.0.now) (formula_of right.entry.0.now) places) build.now.limit c.table) }
     ensures stands { IfOk result (λ c. (f g : Set) (s u : List ℤ → List ℤ) → Stands left.entry.1.now.table (set_of f s) → Stands right.entry.1.now.table (set_of g u) → Stands c.table (joined_sets op (set_of f s) (set_of g u) (shared (formula_of whole.now) (formula_of left.entry.0.now) (formula_of right.entry.0.now) places))) }
     ensures heavy { IfErr result (λ e. e ≡ CompileError.Heavy → IsHeavyProduct left.entry.1.now.table right.entry.1.now.table (shared (formula_of whole.now) (formula_of left.entry.0.now) (formula_of right.entry.0.now) places) build.now.limit) }
+    ensures plain { IfErr result (λ e. (e ≡ CompileError.Memory → ⊥) → e ≡ CompileError.Heavy) }
 {
     let map = match shared_tracks(alloc, whole, left.0, right.0, places) {
         Ok(map) => map,
@@ -82,7 +83,7 @@ fn conjunction(
     ensures shape { IfOk result (λ c. IsShaped build.now.mode build.now.base (length (free_places (And (formula_of left.now) (formula_of right.now)) places)) c.table) }
     ensures made { IfOk result (λ c. IsMade build.now places (And (formula_of left.now) (formula_of right.now)) c.table) }
     ensures stands { IfOk result (λ c. Stands c.table (set_of (And (formula_of left.now) (formula_of right.now)) (spread places (free_places (And (formula_of left.now) (formula_of right.now)) places)))) }
-    ensures heavy { IfErr result (λ e. e ≡ CompileError.Heavy → IsFirstHeavy build.now places (And (formula_of left.now) (formula_of right.now))) }
+    ensures refused { IfErr result (λ e. (e ≡ CompileError.Memory → ⊥) → IsFirstRefused build.now places (And (formula_of left.now) (formula_of right.now)) e) }
 {
     depends_on_free_places();
     let first = match part(alloc, build, left, places) {
@@ -123,7 +124,7 @@ fn disjunction(
     ensures shape { IfOk result (λ c. IsShaped build.now.mode build.now.base (length (free_places (Or (formula_of left.now) (formula_of right.now)) places)) c.table) }
     ensures made { IfOk result (λ c. IsMade build.now places (Or (formula_of left.now) (formula_of right.now)) c.table) }
     ensures stands { IfOk result (λ c. Stands c.table (set_of (Or (formula_of left.now) (formula_of right.now)) (spread places (free_places (Or (formula_of left.now) (formula_of right.now)) places)))) }
-    ensures heavy { IfErr result (λ e. e ≡ CompileError.Heavy → IsFirstHeavy build.now places (Or (formula_of left.now) (formula_of right.now))) }
+    ensures refused { IfErr result (λ e. (e ≡ CompileError.Memory → ⊥) → IsFirstRefused build.now places (Or (formula_of left.now) (formula_of right.now)) e) }
 {
     depends_on_free_places();
     let first = match part(alloc, build, left, places) {
@@ -146,9 +147,9 @@ fn disjunction(
 }
 
 /// The canonical table of a formula over its free variables. The formula is over so many variables and its letters are few; it binds
-/// integers alone if the tables read words, and nothing if they read lassos. The limit of cells is at most 16,777,216. `Heavy` comes
-/// exactly if some step passes the limit, at the first that does. `Memory` is also the answer if more than 2^32 - 1 variables are bound
-/// in one another.
+/// integers alone if the tables read words. The limit of cells is at most 16,777,216. The answer is that of the first step that is refused:
+/// `Heavy` exactly if it passes the limit, and `NotWeak` exactly if it does not and no weak automaton has its set. `Memory` is also the
+/// answer if more than 2^32 - 1 variables are bound in one another.
 #[cycle(part)]
 pub fn part(
     alloc: Global,
@@ -164,7 +165,7 @@ pub fn part(
     ensures shape { IfOk result (λ c. IsShaped build.now.mode build.now.base (length (free_places (formula_of formula.now) places)) c.table) }
     ensures made { IfOk result (λ c. IsMade build.now places (formula_of formula.now) c.table) }
     ensures stands { IfOk result (λ c. Stands c.table (set_of (formula_of formula.now) (spread places (free_places (formula_of formula.now) places)))) }
-    ensures heavy { IfErr result (λ e. e ≡ CompileError.Heavy → IsFirstHeavy build.now places (formula_of formula.now)) }
+    ensures refused { IfErr result (λ e. (e ≡ CompileError.Memory → ⊥) → IsFirstRefused build.now places (formula_of formula.now) e) }
 {
     match formula {
         Formula::Le(term) => atom_part(alloc, build, term, AtomKind::Le),
@@ -176,9 +177,9 @@ pub fn part(
         Formula::And(left, right) => conjunction(alloc, build, formula, left, right, places),
         Formula::Or(left, right) => disjunction(alloc, build, formula, left, right, places),
         // No place after 2^32 - 1 has a number; a lack of numbers is answered as a lack of memory.
-        Formula::Exists(_, inner) => match places.checked_add(1) {
+        Formula::Exists(sort, inner) => match places.checked_add(1) {
             Some(within) => match part(alloc, build, inner, within) {
-                Ok(body) => bound(alloc, build, inner, body, places),
+                Ok(body) => bound(alloc, build, *sort, inner, body, places),
                 Err(error) => Err(error),
             },
             None => Err(CompileError::Memory),

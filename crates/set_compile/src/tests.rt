@@ -6,6 +6,7 @@ ghost use Rattle.set_compile.specs.Conditions.{IsTermOver, IsOver};
 
 use super::*;
 use crate::atoms::append;
+use breakpoint_build::{RealError, project_real};
 use digit_codes::Base;
 use formula_core::{Formula, Linear, Sort, fits_letters};
 use lash_io::Memory;
@@ -14,7 +15,7 @@ use std::alloc::Global;
 use std::process::Abort;
 use std::test::Fail;
 use step_tables::Table;
-use weak_min::Canon;
+use weak_min::{Canon, canonical};
 
 /// The inequation that a coefficient times the variable at place 0 is at most a constant.
 fn at_most(alloc: Global, coefficient: &i128, constant: &i128) -> Result<Formula, Memory>
@@ -130,12 +131,12 @@ fn or(alloc: Global, left: Formula, right: Formula) -> Result<Formula, Memory>
     }
 }
 
-/// For some integer, at the next place.
-fn exists(alloc: Global, body: Formula) -> Result<Formula, Memory>
+/// For some value of a sort, at the next place.
+fn exists(alloc: Global, sort: Sort, body: Formula) -> Result<Formula, Memory>
     ensures over { IfOk result (λ f. (m : ℕ) → IsOver (m + 1) (formula_of body) → IsOver m (formula_of f)) }
 {
     match Box::new(alloc, body) {
-        Ok(body) => Ok(Formula::Exists(Sort::Int, body)),
+        Ok(body) => Ok(Formula::Exists(sort, body)),
         Err(_) => Err(Memory),
     }
 }
@@ -155,7 +156,6 @@ fn over_none(
         None => return Err(CompileError::Memory),
     };
     assert!(rt; fits_letters(two, formula, 0));
-    assert!(rt; is_built(&[], formula));
     compile(alloc, two, &[], formula, limit)
 }
 
@@ -174,7 +174,6 @@ fn over_one(
         None => return Err(CompileError::Memory),
     };
     assert!(rt; fits_letters(two, formula, 1));
-    assert!(rt; is_built(&[Sort::Int], formula));
     compile(alloc, two, &[Sort::Int], formula, limit)
 }
 
@@ -193,7 +192,6 @@ fn over_two(
         None => return Err(CompileError::Memory),
     };
     assert!(rt; fits_letters(two, formula, 2));
-    assert!(rt; is_built(&[Sort::Int, Sort::Int], formula));
     compile(alloc, two, &[Sort::Int, Sort::Int], formula, limit)
 }
 
@@ -212,8 +210,25 @@ fn over_real(
         None => return Err(CompileError::Memory),
     };
     assert!(rt; fits_letters(two, formula, 1));
-    assert!(rt; is_built(&[Sort::Real], formula));
     compile(alloc, two, &[Sort::Real], formula, limit)
+}
+
+/// Over two reals, in base 2.
+fn over_reals(
+    rt: &impl Abort,
+    alloc: Global,
+    formula: &Formula,
+    limit: u64,
+) -> Result<Canon, CompileError>
+    requires over { IsOver 2 (formula_of formula.now) }
+    requires limit { limit ≤ 16777216 }
+{
+    let two = match Base::new(2) {
+        Some(two) => two,
+        None => return Err(CompileError::Memory),
+    };
+    assert!(rt; fits_letters(two, formula, 2));
+    compile(alloc, two, &[Sort::Real, Sort::Real], formula, limit)
 }
 
 /// Over an integer and a real, in base 2.
@@ -231,14 +246,14 @@ fn over_both(
         None => return Err(CompileError::Memory),
     };
     assert!(rt; fits_letters(two, formula, 2));
-    assert!(rt; is_built(&[Sort::Int, Sort::Real], formula));
     compile(alloc, two, &[Sort::Int, Sort::Real], formula, limit)
 }
 
 fn is_heavy(rt: &impl Abort, made: Result<Canon, CompileError>) {
     match made {
         Ok(_) => assert!(rt; false, "the limit is passed"),
-        Err(error) => assert_eq!(rt; error, CompileError::Heavy),
+        Err(CompileError::Heavy) => {}
+        Err(_) => assert!(rt; false, "the limit is the cause"),
     }
 }
 
@@ -377,7 +392,7 @@ fn fourfold_is_high(alloc: Global) -> Result<Formula, Memory>
         Err(Memory) => return Err(Memory),
     };
     match and(alloc, fourfold, high) {
-        Ok(body) => exists(alloc, body),
+        Ok(body) => exists(alloc, Sort::Int, body),
         Err(Memory) => Err(Memory),
     }
 }
@@ -409,7 +424,7 @@ fn one_of_two(alloc: Global) -> Result<Formula, Memory>
         Err(Memory) => return Err(Memory),
     };
     match or(alloc, fourth, other) {
-        Ok(body) => exists(alloc, body),
+        Ok(body) => exists(alloc, Sort::Int, body),
         Err(Memory) => Err(Memory),
     }
 }
@@ -430,7 +445,7 @@ fn low_for_some(alloc: Global) -> Result<Formula, Memory>
     ensures over { IfOk result (λ f. IsOver 1 (formula_of f)) }
 {
     match at_most(alloc, &1, &3) {
-        Ok(low) => exists(alloc, low),
+        Ok(low) => exists(alloc, Sort::Int, low),
         Err(Memory) => Err(Memory),
     }
 }
@@ -455,8 +470,8 @@ fn threefold(alloc: Global) -> Result<Formula, Memory>
         Ok(body) => body,
         Err(Memory) => return Err(Memory),
     };
-    match exists(alloc, body) {
-        Ok(inner) => exists(alloc, inner),
+    match exists(alloc, Sort::Int, body) {
+        Ok(inner) => exists(alloc, Sort::Int, inner),
         Err(Memory) => Err(Memory),
     }
 }
@@ -478,7 +493,7 @@ fn some_is_high(alloc: Global) -> Result<Formula, Memory>
     ensures over { IfOk result (λ f. IsOver 0 (formula_of f)) }
 {
     match at_most(alloc, &-1, &-8) {
-        Ok(high) => exists(alloc, high),
+        Ok(high) => exists(alloc, Sort::Int, high),
         Err(Memory) => Err(Memory),
     }
 }
@@ -497,7 +512,7 @@ fn five_thirds(alloc: Global) -> Result<Formula, Memory>
     ensures over { IfOk result (λ f. IsOver 0 (formula_of f)) }
 {
     match equal(alloc, &3, &5) {
-        Ok(body) => exists(alloc, body),
+        Ok(body) => exists(alloc, Sort::Int, body),
         Err(Memory) => Err(Memory),
     }
 }
@@ -580,13 +595,90 @@ fn an_unused_integer(rt: HostRuntime) -> Result<(), Fail> {
     Ok(())
 }
 
-// Beside a real variable no variable is bound so far.
+// A real that is some integer. The atom has 45 cells, the whole numbers 15, their pairs 140, and the breakpoint states 34.
 #[test]
-fn built_formulas(rt: HostRuntime) -> Result<(), Fail> {
-    let formula = threefold(rt.alloc())?;
-    assert!(&rt; is_built(&[Sort::Int], &formula));
-    assert!(&rt; !is_built(&[Sort::Real], &formula));
-    let formula = at_most(rt.alloc(), &1, &3)?;
-    assert!(&rt; is_built(&[Sort::Real], &formula));
+fn an_integer_bound_among_reals(rt: HostRuntime) -> Result<(), Fail> {
+    let formula = some_integer(rt.alloc())?;
+    let made = over_real(&rt, rt.alloc(), &formula, 140)?;
+    roots_are(&rt, made.table(), &[0, 0]);
+    parts_are(&rt, made.table(), &[0], &[true, true, true, false]);
+    fraction_row_is(&rt, made.table(), 0, &[1, 2]);
+    fraction_row_is(&rt, made.table(), 1, &[1, 3]);
+    fraction_row_is(&rt, made.table(), 2, &[3, 2]);
+    is_heavy(&rt, over_real(&rt, rt.alloc(), &formula, 139));
     Ok(())
+}
+
+/// For some integer n, x = n.
+fn some_integer(alloc: Global) -> Result<Formula, Memory>
+    ensures over { IfOk result (λ f. IsOver 1 (formula_of f)) }
+{
+    match sum_equal(alloc, &1, 1, &-1, &0) {
+        Ok(body) => exists(alloc, Sort::Int, body),
+        Err(Memory) => Err(Memory),
+    }
+}
+
+// An integer with a half that is at least 0, so the declared variables are integers and the bound one is real. The atoms have 55 and 18
+// cells, their pairs 210, and the breakpoint states 68.
+#[test]
+fn a_real_bound_beside_an_integer(rt: HostRuntime) -> Result<(), Fail> {
+    let formula = some_half(rt.alloc())?;
+    let made = over_one(&rt, rt.alloc(), &formula, 210)?;
+    roots_are(&rt, made.table(), &[0, 1]);
+    outs_are(&rt, made.table(), &[1, 0]);
+    row_is(&rt, made.table(), 0, &[0, 0]);
+    row_is(&rt, made.table(), 1, &[1, 1]);
+    assert!(&rt; made.table().fracs() == 0);
+    is_heavy(&rt, over_one(&rt, rt.alloc(), &formula, 209));
+    Ok(())
+}
+
+/// For some real y, 2y = x and y is at least 0.
+fn some_half(alloc: Global) -> Result<Formula, Memory>
+    ensures over { IfOk result (λ f. IsOver 1 (formula_of f)) }
+{
+    let half = match sum_equal(alloc, &-1, 1, &2, &0) {
+        Ok(half) => half,
+        Err(Memory) => return Err(Memory),
+    };
+    let high = match next_at_most(alloc, &-1, &0) {
+        Ok(high) => high,
+        Err(Memory) => return Err(Memory),
+    };
+    match and(alloc, half, high) {
+        Ok(body) => exists(alloc, Sort::Real, body),
+        Err(Memory) => Err(Memory),
+    }
+}
+
+// The table of 2y = x over two reals forgets the track of y. What is left accepts all lassos, with one state in each part.
+#[test]
+fn a_forgotten_track(rt: HostRuntime) -> Result<(), Fail> {
+    let formula = sum_equal(rt.alloc(), &-1, 1, &2, &0)?;
+    let made = over_reals(&rt, rt.alloc(), &formula, 4194304)?;
+    let all = without_second(rt.alloc(), &made, 4194304)?;
+    roots_are(&rt, all.table(), &[0, 0]);
+    row_is(&rt, all.table(), 0, &[0, 0]);
+    parts_are(&rt, all.table(), &[0], &[true]);
+    fraction_row_is(&rt, all.table(), 0, &[0, 0]);
+    match without_second(rt.alloc(), &made, 1) {
+        Err(RealError::Heavy) => Ok(()),
+        _ => Err(Fail::new("the limit is passed")),
+    }
+}
+
+/// The canonical table of a table with fraction states that forgets its second track; out of memory for another table.
+fn without_second(alloc: Global, made: &Canon, limit: u64) -> Result<Canon, RealError>
+    requires limit { limit ≤ 16777216 }
+{
+    let table = made.table();
+    if table.fracs() == 0 || table.tracks() < 2 {
+        return Err(RealError::Memory);
+    }
+    let forgotten = project_real(alloc, table, 1, limit)?;
+    match canonical(alloc, &forgotten) {
+        Ok(all) => Ok(all),
+        Err(Memory) => Err(RealError::Memory),
+    }
 }

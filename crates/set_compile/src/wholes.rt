@@ -2,8 +2,9 @@
 
 ghost use Rattle.std.specs.Prelude.{◌≡◌, ◌<◌, ◌≤◌, ◌^◌, map, length, IfOk, IfErr};
 ghost use Rattle.formula_core.specs.Variables.{sort_of};
-ghost use Rattle.set_compile.specs.Compiling.{whole_cells, IsOfWholes, with_track, IsWholeAt, AreWholeFrom, IsHeavyAt, IsHeavyFrom};
+ghost use Rattle.set_compile.specs.Compiling.{AreWholeFrom, IsHeavyFrom};
 ghost use Rattle.set_compile.specs.Kinds.{IsShaped};
+ghost use Rattle.set_compile.specs.Steps.{whole_cells, IsOfWholes, with_track, IsWholeAt, IsHeavyAt};
 
 use crate::CompileError;
 use crate::build::{Build, Mode};
@@ -22,6 +23,7 @@ fn whole_numbers(alloc: Global, build: &Build) -> Result<Canon, CompileError>
     requires { build.now.mode ≡ Mode.Mixed }
     ensures made { IfOk result (λ c. IsOfWholes build.now c.table) }
     ensures heavy { IfErr result (λ e. e ≡ CompileError.Heavy → build.now.limit < whole_cells build.now.base) }
+    ensures plain { IfErr result (λ e. (e ≡ CompileError.Memory → ⊥) → e ≡ CompileError.Heavy) }
 {
     let Build { base, limit, .. } = *build;
     let table = match is_int(alloc, base, limit) {
@@ -52,7 +54,12 @@ fn track_map(alloc: Global, tracks: u32, place: u32) -> Result<TrackMap, Memory>
 
 /// The canonical table of the vectors of a table whose entry at a place is whole. `Heavy` comes exactly if the table of whole numbers or
 /// its product with the given one passes the limit.
-fn with_whole(alloc: Global, build: &Build, made: &Canon, place: u32) -> Result<Canon, CompileError>
+pub(crate) fn with_whole(
+    alloc: Global,
+    build: &Build,
+    made: &Canon,
+    place: u32,
+) -> Result<Canon, CompileError>
     requires mode { build.now.mode ≡ Mode.Mixed }
     requires shape { IsShaped build.now.mode build.now.base made.now.table.tracks made.now.table }
     requires place { place < made.now.table.tracks }
@@ -60,6 +67,7 @@ fn with_whole(alloc: Global, build: &Build, made: &Canon, place: u32) -> Result<
     requires limit { build.now.limit ≤ 16777216 }
     ensures made { IfOk result (λ c. IsWholeAt build.now made.now.table.tracks place made.now.table c.table) }
     ensures heavy { IfErr result (λ e. e ≡ CompileError.Heavy → IsHeavyAt build.now made.now.table.tracks place made.now.table) }
+    ensures plain { IfErr result (λ e. (e ≡ CompileError.Memory → ⊥) → e ≡ CompileError.Heavy) }
 {
     let wholes = match whole_numbers(alloc, build) {
         Ok(wholes) => wholes,
@@ -95,6 +103,7 @@ fn of_sort(
     ensures same { sort ≡ Sort.Real → IfOk result (λ c. c.table ≡ made.table) }
     ensures integer { IfErr result (λ _. sort ≡ Sort.Int) }
     ensures heavy { IfErr result (λ e. e ≡ CompileError.Heavy → IsHeavyAt build.now made.table.tracks place made.table) }
+    ensures plain { IfErr result (λ e. (e ≡ CompileError.Memory → ⊥) → e ≡ CompileError.Heavy) }
 {
     match sort {
         Sort::Int => with_whole(alloc, build, &made, place),
@@ -117,6 +126,7 @@ pub fn with_wholes(
     ensures made { IfOk result (λ c. AreWholeFrom build.now (length sorts.now) 0 (map sort_of sorts.now) wide.table c.table) }
     ensures shape { IfOk result (λ c. IsShaped build.now.mode build.now.base (length sorts.now) c.table) }
     ensures heavy { IfErr result (λ e. e ≡ CompileError.Heavy → IsHeavyFrom build.now (length sorts.now) 0 (map sort_of sorts.now) wide.table) }
+    ensures plain { IfErr result (λ e. (e ≡ CompileError.Memory → ⊥) → e ≡ CompileError.Heavy) }
 {
     let mut made = wide;
     for (place, sort) in sorts.iter().enumerate() {

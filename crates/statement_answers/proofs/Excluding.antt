@@ -16,6 +16,8 @@ use Rattle.product_ops.specs.Products.{IsHeavyProduct}
 use Rattle.product_ops.specs.declared.operation.Op.TheVariants.{AndNot}
 use Rattle.set_answers.specs.Differences.{all_tracks}
 use Rattle.set_compile.specs.Compiling.{IsCompiled, IsRefused}
+use Rattle.set_compile.specs.declared.errors.CompileError.{CompileError}
+use Rattle.set_compile.specs.declared.errors.CompileError.TheVariants as compiling
 use Rattle.set_compile.proofs.Refusing.{PairsExclude}
 use Rattle.script_names.specs.Kept.{KeptSet}
 use Rattle.script_meaning.specs.declared.limits.Which.{Which}
@@ -24,14 +26,15 @@ use Rattle.statement_meaning.specs.Asking.{Asked, Show, Set, Print, Solve, Test,
 use Rattle.statement_answers.specs.Automata.{cells_of, IsAnswer}
 use Rattle.statement_answers.specs.Keeping.{kept_cells_limit, cells_of_all, HaveAutomata, OfTwo}
 use Rattle.statement_answers.specs.Loops.{pairs_of, HasPairs, ClosurePasses, IsClosurePassed}
-use Rattle.statement_answers.specs.Pieces.{ArePaired, AreHeavyPairs, IsKeptWith, IsPieceOf, IsUnbuilt, IsHeavyAsked, IsTooMuch, IsPowerless, IsPassedByClosure, IsAnswerable, IsUnanswered}
+use Rattle.statement_answers.specs.Pieces.{ArePaired, AreHeavyPairs, IsKeptWith, IsPieceOf, IsSetRefused, IsRefusedAsked, IsTooMuch, IsPowerless, IsPassedByClosure, IsAnswerable, IsUnanswered}
 use Rattle.statement_answers.specs.declared.settings.Settings.{Settings}
 use Rattle.statement_answers.specs.declared.errors.Unanswered.{Unanswered}
-use Rattle.statement_answers.specs.declared.errors.Unanswered.TheVariants.{Unbuilt, Heavy, NoPower, Closure, KeptCells, Fault, Memory}
+use Rattle.statement_answers.specs.declared.errors.Unanswered.TheVariants.{Heavy, NotWeak, NoPower, Closure, KeptCells, Fault, Memory}
 
 -- what the crates below say of tables and powers
 pub record Laws : Type 0 where
-  pub heavy : (base limit : ℕ) (sorts : List Sort) (f : Formula) (t : Table) → IsRefused base limit sorts f → IsCompiled base limit sorts f t → ⊥
+  pub refused : (base limit : ℕ) (sorts : List Sort) (f : Formula) (e : CompileError) (t : Table) → IsRefused base limit sorts f e → IsCompiled base limit sorts f t → ⊥
+  pub one_refusal : (base limit : ℕ) (sorts : List Sort) (f : Formula) (e k : CompileError) → IsRefused base limit sorts f e → IsRefused base limit sorts f k → e ≡ k
   pub one_table : (base limit : ℕ) (sorts : List Sort) (f : Formula) (t u : Table) → IsCompiled base limit sorts f t → IsCompiled base limit sorts f u → t ≡ u
   pub heavy_pairs : PairsExclude
   pub one_power : (a : Square) (p q : ℕ) → IsLeastPower a p → IsLeastPower a q → p ≡ q
@@ -40,9 +43,37 @@ pub record Laws : Type 0 where
 one_answer : (settings : Settings) → Laws → (vars : List (List ℕ × Sort)) (f : Formula) (t u : Table) → IsAnswer settings vars f t → IsAnswer settings vars f u → t ≡ u
 one_answer settings l vars f t u h k = l.one_table settings.base settings.cells (sorts_of vars) f t u h.made k.made
 
-not_refused : (settings : Settings) → Laws → (vars : List (List ℕ × Sort)) (f : Formula) (t : Table) → IsAnswer settings vars f t
-    → IsRefused settings.base settings.cells (sorts_of vars) f → ⊥
-not_refused settings l vars f t h r = l.heavy settings.base settings.cells (sorts_of vars) f t r h.made
+-- how a statement is answered whose formula is not compiled
+abbrev answer_of : CompileError → Unanswered
+answer_of compiling.Heavy = Heavy
+answer_of (compiling.NotWeak sign whole stem accept reject) = NotWeak sign whole stem accept reject
+answer_of compiling.Memory = Memory
+
+-- why a set is refused with this answer
+record Refusal (settings : Settings) (vars : List (List ℕ × Sort)) (f : Formula) (e : Unanswered) : Type 0 where
+  pub error : CompileError
+  pub is : e ≡ answer_of error
+  pub refused : IsRefused settings.base settings.cells (sorts_of vars) f error
+
+refusal : (settings : Settings) (vars : List (List ℕ × Sort)) (f : Formula) (e : Unanswered) → IsSetRefused settings vars f e → Refusal settings vars f e
+refusal settings vars f Heavy h = record { error = compiling.Heavy; is = refl; refused = h }
+refusal settings vars f (NotWeak sign whole stem accept reject) h = record { error = compiling.NotWeak sign whole stem accept reject; is = refl; refused = h }
+refusal settings vars f NoPower h = absurd h
+refusal settings vars f (Closure which) h = absurd h
+refusal settings vars f KeptCells h = absurd h
+refusal settings vars f Fault h = absurd h
+refusal settings vars f Memory h = absurd h
+
+not_refused : (settings : Settings) → Laws → (vars : List (List ℕ × Sort)) (f : Formula) (t : Table) (e : Unanswered) → IsAnswer settings vars f t → IsSetRefused settings vars f e → ⊥
+not_refused settings l vars f t e h k =
+    let r = refusal settings vars f e k in
+    l.refused settings.base settings.cells (sorts_of vars) f r.error t r.refused h.made
+
+one_refused : (settings : Settings) → Laws → (vars : List (List ℕ × Sort)) (f : Formula) (u v : Unanswered) → IsSetRefused settings vars f u → IsSetRefused settings vars f v → u ≡ v
+one_refused settings l vars f u v h k =
+    let r = refusal settings vars f u h in
+    let s = refusal settings vars f v k in
+    r.is ∙ ap answer_of (l.one_refusal settings.base settings.cells (sorts_of vars) f r.error s.error r.refused s.refused) ∙ sym s.is
 
 one_automata : (settings : Settings) → Laws → (kept : List KeptSet) (ts us : List Table) → HaveAutomata settings kept ts → HaveAutomata settings kept us → ts ≡ us
 one_automata settings l [] [] [] h k = refl
@@ -135,29 +166,17 @@ piece_answerable settings kept (Subset i j) piece h = (h.0, (h.1.0, (h.1.1.0, (h
 piece_answerable settings kept (Check f) piece h = h.0
 piece_answerable settings kept (Loop name vars body) piece h = (h.0, h.1.1)
 
--- a statement that can be answered has no cause: it is built
-not_unbuilt : (settings : Settings) (kept : List KeptSet) (asked : Asked) → IsAnswerable settings kept asked → IsUnbuilt settings kept asked → ⊥
-not_unbuilt settings kept (Show vars f) h k = k h.1.built
-not_unbuilt settings kept (Set name vars f) h k = k h.answer.built
-not_unbuilt settings kept (Print at) h k = k
-not_unbuilt settings kept (Solve at) h k = k
-not_unbuilt settings kept (Test at values) h k = k
-not_unbuilt settings kept (Equal i j) h k = k
-not_unbuilt settings kept (Subset i j) h k = k
-not_unbuilt settings kept (Check f) h k = k h.1.built
-not_unbuilt settings kept (Loop name vars body) h k = k.1 h.1.answer.built
-
--- its steps are within the limit
-not_heavy : (settings : Settings) → Laws → (kept : List KeptSet) (asked : Asked) → IsAnswerable settings kept asked → IsHeavyAsked settings kept asked → ⊥
-not_heavy settings l kept (Show vars f) h k = not_refused settings l vars f h.0 h.1 k.1
-not_heavy settings l kept (Set name vars f) h k = not_refused settings l vars f h.table h.answer k.1
-not_heavy settings l kept (Print at) h k = k
-not_heavy settings l kept (Solve at) h k = k
-not_heavy settings l kept (Test at values) h k = k
-not_heavy settings l kept (Equal i j) h k = k
-not_heavy settings l kept (Subset i j) h k = two_apart settings l kept i j h k
-not_heavy settings l kept (Check f) h k = not_refused settings l [] f h.0 h.1 k.1
-not_heavy settings l kept (Loop name vars body) h k = not_refused settings l vars (pairs_of body) h.1.table h.1.answer k.1.1
+-- a statement that can be answered has no cause: none of its steps is refused
+refused_none : (settings : Settings) → Laws → (kept : List KeptSet) (asked : Asked) (u : Unanswered) → IsAnswerable settings kept asked → IsRefusedAsked settings kept asked u → ⊥
+refused_none settings l kept (Show vars f) u h k = not_refused settings l vars f h.0 u h.1 k
+refused_none settings l kept (Set name vars f) u h k = not_refused settings l vars f h.table u h.answer k
+refused_none settings l kept (Print at) u h k = k
+refused_none settings l kept (Solve at) u h k = k
+refused_none settings l kept (Test at values) u h k = k
+refused_none settings l kept (Equal i j) u h k = k
+refused_none settings l kept (Subset i j) u h k = two_apart settings l kept i j h k.1
+refused_none settings l kept (Check f) u h k = not_refused settings l [] f h.0 u h.1 k
+refused_none settings l kept (Loop name vars body) u h k = not_refused settings l vars (pairs_of body) h.1.table u h.1.answer k.1
 
 -- it has powers
 not_powerless : (settings : Settings) → Laws → (kept : List KeptSet) (asked : Asked) → IsAnswerable settings kept asked → IsPowerless kept asked → ⊥
@@ -196,93 +215,60 @@ not_too_much settings l kept (Check f) h k = k
 not_too_much settings l kept (Loop name vars body) h k = kept_apart settings l kept vars (pairs_of body) h.1 k.1
 
 pub not_unanswered : (settings : Settings) → Laws → (kept : List KeptSet) (asked : Asked) (u : Unanswered) → IsAnswerable settings kept asked → IsUnanswered settings kept asked u → ⊥
-not_unanswered settings l kept asked Unbuilt h k = not_unbuilt settings kept asked h k
-not_unanswered settings l kept asked Heavy h k = not_heavy settings l kept asked h k
+not_unanswered settings l kept asked Heavy h k = refused_none settings l kept asked Heavy h k
+not_unanswered settings l kept asked (NotWeak sign whole stem accept reject) h k = refused_none settings l kept asked (NotWeak sign whole stem accept reject) h k
 not_unanswered settings l kept asked NoPower h k = not_powerless settings l kept asked h k
 not_unanswered settings l kept asked (Closure which) h k = not_passed settings l kept asked which h k
 not_unanswered settings l kept asked KeptCells h k = not_too_much settings l kept asked h k
 not_unanswered settings l kept asked Fault h k = k
 not_unanswered settings l kept asked Memory h k = k
 
--- no two causes: the statement is not built, and a construction has too many cells
-unbuilt_heavy : (settings : Settings) (kept : List KeptSet) (asked : Asked) → IsUnbuilt settings kept asked → IsHeavyAsked settings kept asked → ⊥
-unbuilt_heavy settings kept (Show vars f) h k = h k.0
-unbuilt_heavy settings kept (Set name vars f) h k = h k.0
-unbuilt_heavy settings kept (Print at) h k = k
-unbuilt_heavy settings kept (Solve at) h k = k
-unbuilt_heavy settings kept (Test at values) h k = k
-unbuilt_heavy settings kept (Equal i j) h k = k
-unbuilt_heavy settings kept (Subset i j) h k = h
-unbuilt_heavy settings kept (Check f) h k = h k.0
-unbuilt_heavy settings kept (Loop name vars body) h k = h.1 k.1.0
+-- no two causes: a step is refused in one way
+refused_once : (settings : Settings) → Laws → (kept : List KeptSet) (asked : Asked) (u v : Unanswered) → IsRefusedAsked settings kept asked u → IsRefusedAsked settings kept asked v → u ≡ v
+refused_once settings l kept (Show vars f) u v h k = one_refused settings l vars f u v h k
+refused_once settings l kept (Set name vars f) u v h k = one_refused settings l vars f u v h k
+refused_once settings l kept (Print at) u v h k = absurd h
+refused_once settings l kept (Solve at) u v h k = absurd h
+refused_once settings l kept (Test at values) u v h k = absurd h
+refused_once settings l kept (Equal i j) u v h k = absurd h
+refused_once settings l kept (Subset i j) u v h k = h.0 ∙ sym k.0
+refused_once settings l kept (Check f) u v h k = one_refused settings l [] f u v h k
+refused_once settings l kept (Loop name vars body) u v h k = one_refused settings l vars (pairs_of body) u v h.1 k.1
 
-unbuilt_powerless : (settings : Settings) → Laws → (kept : List KeptSet) (asked : Asked) → IsUnbuilt settings kept asked → IsPowerless kept asked → ⊥
-unbuilt_powerless settings l kept (Show vars f) h k = k
-unbuilt_powerless settings l kept (Set name vars f) h k = k
-unbuilt_powerless settings l kept (Print at) h k = k
-unbuilt_powerless settings l kept (Solve at) h k = k
-unbuilt_powerless settings l kept (Test at values) h k = k
-unbuilt_powerless settings l kept (Equal i j) h k = k
-unbuilt_powerless settings l kept (Subset i j) h k = k
-unbuilt_powerless settings l kept (Check f) h k = k
-unbuilt_powerless settings l kept (Loop name vars body) h k = l.powerless body.matrix h.0.power h.0.least k
+-- a step is refused, and there is no power
+refused_powerless : (settings : Settings) → Laws → (kept : List KeptSet) (asked : Asked) (u : Unanswered) → IsRefusedAsked settings kept asked u → IsPowerless kept asked → ⊥
+refused_powerless settings l kept (Show vars f) u h k = k
+refused_powerless settings l kept (Set name vars f) u h k = k
+refused_powerless settings l kept (Print at) u h k = k
+refused_powerless settings l kept (Solve at) u h k = k
+refused_powerless settings l kept (Test at values) u h k = k
+refused_powerless settings l kept (Equal i j) u h k = k
+refused_powerless settings l kept (Subset i j) u h k = k
+refused_powerless settings l kept (Check f) u h k = k
+refused_powerless settings l kept (Loop name vars body) u h k = l.powerless body.matrix h.0.power h.0.least k
 
-unbuilt_passed : (settings : Settings) → Laws → (kept : List KeptSet) (asked : Asked) (which : Which) → IsUnbuilt settings kept asked
+refused_passed : (settings : Settings) → Laws → (kept : List KeptSet) (asked : Asked) (u : Unanswered) (which : Which) → IsRefusedAsked settings kept asked u
     → IsPassedByClosure settings which kept asked → ⊥
-unbuilt_passed settings l kept (Show vars f) which h k = k
-unbuilt_passed settings l kept (Set name vars f) which h k = k
-unbuilt_passed settings l kept (Print at) which h k = k
-unbuilt_passed settings l kept (Solve at) which h k = k
-unbuilt_passed settings l kept (Test at values) which h k = k
-unbuilt_passed settings l kept (Equal i j) which h k = k
-unbuilt_passed settings l kept (Subset i j) which h k = k
-unbuilt_passed settings l kept (Check f) which h k = k
-unbuilt_passed settings l kept (Loop name vars body) which h k = closure_apart settings.base l body which h.0 k
+refused_passed settings l kept (Show vars f) u which h k = k
+refused_passed settings l kept (Set name vars f) u which h k = k
+refused_passed settings l kept (Print at) u which h k = k
+refused_passed settings l kept (Solve at) u which h k = k
+refused_passed settings l kept (Test at values) u which h k = k
+refused_passed settings l kept (Equal i j) u which h k = k
+refused_passed settings l kept (Subset i j) u which h k = k
+refused_passed settings l kept (Check f) u which h k = k
+refused_passed settings l kept (Loop name vars body) u which h k = closure_apart settings.base l body which h.0 k
 
-unbuilt_too_much : (settings : Settings) (kept : List KeptSet) (asked : Asked) → IsUnbuilt settings kept asked → IsTooMuch settings kept asked → ⊥
-unbuilt_too_much settings kept (Show vars f) h k = k
-unbuilt_too_much settings kept (Set name vars f) h k = h k.answer.built
-unbuilt_too_much settings kept (Print at) h k = k
-unbuilt_too_much settings kept (Solve at) h k = k
-unbuilt_too_much settings kept (Test at values) h k = k
-unbuilt_too_much settings kept (Equal i j) h k = k
-unbuilt_too_much settings kept (Subset i j) h k = k
-unbuilt_too_much settings kept (Check f) h k = k
-unbuilt_too_much settings kept (Loop name vars body) h k = h.1 k.1.answer.built
-
--- a construction has too many cells, and there is no power
-heavy_powerless : (settings : Settings) → Laws → (kept : List KeptSet) (asked : Asked) → IsHeavyAsked settings kept asked → IsPowerless kept asked → ⊥
-heavy_powerless settings l kept (Show vars f) h k = k
-heavy_powerless settings l kept (Set name vars f) h k = k
-heavy_powerless settings l kept (Print at) h k = k
-heavy_powerless settings l kept (Solve at) h k = k
-heavy_powerless settings l kept (Test at values) h k = k
-heavy_powerless settings l kept (Equal i j) h k = k
-heavy_powerless settings l kept (Subset i j) h k = k
-heavy_powerless settings l kept (Check f) h k = k
-heavy_powerless settings l kept (Loop name vars body) h k = l.powerless body.matrix h.0.power h.0.least k
-
-heavy_passed : (settings : Settings) → Laws → (kept : List KeptSet) (asked : Asked) (which : Which) → IsHeavyAsked settings kept asked → IsPassedByClosure settings which kept asked → ⊥
-heavy_passed settings l kept (Show vars f) which h k = k
-heavy_passed settings l kept (Set name vars f) which h k = k
-heavy_passed settings l kept (Print at) which h k = k
-heavy_passed settings l kept (Solve at) which h k = k
-heavy_passed settings l kept (Test at values) which h k = k
-heavy_passed settings l kept (Equal i j) which h k = k
-heavy_passed settings l kept (Subset i j) which h k = k
-heavy_passed settings l kept (Check f) which h k = k
-heavy_passed settings l kept (Loop name vars body) which h k = closure_apart settings.base l body which h.0 k
-
-heavy_too_much : (settings : Settings) → Laws → (kept : List KeptSet) (asked : Asked) → IsHeavyAsked settings kept asked → IsTooMuch settings kept asked → ⊥
-heavy_too_much settings l kept (Show vars f) h k = k
-heavy_too_much settings l kept (Set name vars f) h k = not_refused settings l vars f k.table k.answer h.1
-heavy_too_much settings l kept (Print at) h k = k
-heavy_too_much settings l kept (Solve at) h k = k
-heavy_too_much settings l kept (Test at values) h k = k
-heavy_too_much settings l kept (Equal i j) h k = k
-heavy_too_much settings l kept (Subset i j) h k = k
-heavy_too_much settings l kept (Check f) h k = k
-heavy_too_much settings l kept (Loop name vars body) h k = not_refused settings l vars (pairs_of body) k.1.table k.1.answer h.1.1
+refused_too_much : (settings : Settings) → Laws → (kept : List KeptSet) (asked : Asked) (u : Unanswered) → IsRefusedAsked settings kept asked u → IsTooMuch settings kept asked → ⊥
+refused_too_much settings l kept (Show vars f) u h k = k
+refused_too_much settings l kept (Set name vars f) u h k = not_refused settings l vars f k.table u k.answer h
+refused_too_much settings l kept (Print at) u h k = k
+refused_too_much settings l kept (Solve at) u h k = k
+refused_too_much settings l kept (Test at values) u h k = k
+refused_too_much settings l kept (Equal i j) u h k = k
+refused_too_much settings l kept (Subset i j) u h k = k
+refused_too_much settings l kept (Check f) u h k = k
+refused_too_much settings l kept (Loop name vars body) u h k = not_refused settings l vars (pairs_of body) k.1.table u k.1.answer h.1
 
 powerless_passed : (settings : Settings) → Laws → (kept : List KeptSet) (asked : Asked) (which : Which) → IsPowerless kept asked → IsPassedByClosure settings which kept asked → ⊥
 powerless_passed settings l kept (Show vars f) which h k = k
@@ -329,38 +315,38 @@ one_passed settings l kept (Check f) v w h k = absurd h
 one_passed settings l kept (Loop name vars body) v w h k = one_closure settings.base l body v w h k
 
 pub one_cause : (settings : Settings) → Laws → (kept : List KeptSet) (asked : Asked) (u v : Unanswered) → IsUnanswered settings kept asked u → IsUnanswered settings kept asked v → u ≡ v
-one_cause settings l kept asked Unbuilt Unbuilt h k = refl
-one_cause settings l kept asked Unbuilt Heavy h k = absurd (unbuilt_heavy settings kept asked h k)
-one_cause settings l kept asked Unbuilt NoPower h k = absurd (unbuilt_powerless settings l kept asked h k)
-one_cause settings l kept asked Unbuilt (Closure w) h k = absurd (unbuilt_passed settings l kept asked w h k)
-one_cause settings l kept asked Unbuilt KeptCells h k = absurd (unbuilt_too_much settings kept asked h k)
-one_cause settings l kept asked Unbuilt Fault h k = absurd k
-one_cause settings l kept asked Unbuilt Memory h k = absurd k
-one_cause settings l kept asked Heavy Unbuilt h k = absurd (unbuilt_heavy settings kept asked k h)
 one_cause settings l kept asked Heavy Heavy h k = refl
-one_cause settings l kept asked Heavy NoPower h k = absurd (heavy_powerless settings l kept asked h k)
-one_cause settings l kept asked Heavy (Closure w) h k = absurd (heavy_passed settings l kept asked w h k)
-one_cause settings l kept asked Heavy KeptCells h k = absurd (heavy_too_much settings l kept asked h k)
+one_cause settings l kept asked Heavy (NotWeak t z w b q) h k = refused_once settings l kept asked Heavy (NotWeak t z w b q) h k
+one_cause settings l kept asked Heavy NoPower h k = absurd (refused_powerless settings l kept asked Heavy h k)
+one_cause settings l kept asked Heavy (Closure j) h k = absurd (refused_passed settings l kept asked Heavy j h k)
+one_cause settings l kept asked Heavy KeptCells h k = absurd (refused_too_much settings l kept asked Heavy h k)
 one_cause settings l kept asked Heavy Fault h k = absurd k
 one_cause settings l kept asked Heavy Memory h k = absurd k
-one_cause settings l kept asked NoPower Unbuilt h k = absurd (unbuilt_powerless settings l kept asked k h)
-one_cause settings l kept asked NoPower Heavy h k = absurd (heavy_powerless settings l kept asked k h)
+one_cause settings l kept asked (NotWeak s x y a r) Heavy h k = refused_once settings l kept asked (NotWeak s x y a r) Heavy h k
+one_cause settings l kept asked (NotWeak s x y a r) (NotWeak t z w b q) h k = refused_once settings l kept asked (NotWeak s x y a r) (NotWeak t z w b q) h k
+one_cause settings l kept asked (NotWeak s x y a r) NoPower h k = absurd (refused_powerless settings l kept asked (NotWeak s x y a r) h k)
+one_cause settings l kept asked (NotWeak s x y a r) (Closure j) h k = absurd (refused_passed settings l kept asked (NotWeak s x y a r) j h k)
+one_cause settings l kept asked (NotWeak s x y a r) KeptCells h k = absurd (refused_too_much settings l kept asked (NotWeak s x y a r) h k)
+one_cause settings l kept asked (NotWeak s x y a r) Fault h k = absurd k
+one_cause settings l kept asked (NotWeak s x y a r) Memory h k = absurd k
+one_cause settings l kept asked NoPower Heavy h k = absurd (refused_powerless settings l kept asked Heavy k h)
+one_cause settings l kept asked NoPower (NotWeak t z w b q) h k = absurd (refused_powerless settings l kept asked (NotWeak t z w b q) k h)
 one_cause settings l kept asked NoPower NoPower h k = refl
-one_cause settings l kept asked NoPower (Closure w) h k = absurd (powerless_passed settings l kept asked w h k)
+one_cause settings l kept asked NoPower (Closure j) h k = absurd (powerless_passed settings l kept asked j h k)
 one_cause settings l kept asked NoPower KeptCells h k = absurd (powerless_too_much settings l kept asked h k)
 one_cause settings l kept asked NoPower Fault h k = absurd k
 one_cause settings l kept asked NoPower Memory h k = absurd k
-one_cause settings l kept asked (Closure v) Unbuilt h k = absurd (unbuilt_passed settings l kept asked v k h)
-one_cause settings l kept asked (Closure v) Heavy h k = absurd (heavy_passed settings l kept asked v k h)
-one_cause settings l kept asked (Closure v) NoPower h k = absurd (powerless_passed settings l kept asked v k h)
-one_cause settings l kept asked (Closure v) (Closure w) h k = ap Closure (one_passed settings l kept asked v w h k)
-one_cause settings l kept asked (Closure v) KeptCells h k = absurd (passed_too_much settings l kept asked v h k)
-one_cause settings l kept asked (Closure v) Fault h k = absurd k
-one_cause settings l kept asked (Closure v) Memory h k = absurd k
-one_cause settings l kept asked KeptCells Unbuilt h k = absurd (unbuilt_too_much settings kept asked k h)
-one_cause settings l kept asked KeptCells Heavy h k = absurd (heavy_too_much settings l kept asked k h)
+one_cause settings l kept asked (Closure i) Heavy h k = absurd (refused_passed settings l kept asked Heavy i k h)
+one_cause settings l kept asked (Closure i) (NotWeak t z w b q) h k = absurd (refused_passed settings l kept asked (NotWeak t z w b q) i k h)
+one_cause settings l kept asked (Closure i) NoPower h k = absurd (powerless_passed settings l kept asked i k h)
+one_cause settings l kept asked (Closure i) (Closure j) h k = ap Closure (one_passed settings l kept asked i j h k)
+one_cause settings l kept asked (Closure i) KeptCells h k = absurd (passed_too_much settings l kept asked i h k)
+one_cause settings l kept asked (Closure i) Fault h k = absurd k
+one_cause settings l kept asked (Closure i) Memory h k = absurd k
+one_cause settings l kept asked KeptCells Heavy h k = absurd (refused_too_much settings l kept asked Heavy k h)
+one_cause settings l kept asked KeptCells (NotWeak t z w b q) h k = absurd (refused_too_much settings l kept asked (NotWeak t z w b q) k h)
 one_cause settings l kept asked KeptCells NoPower h k = absurd (powerless_too_much settings l kept asked k h)
-one_cause settings l kept asked KeptCells (Closure w) h k = absurd (passed_too_much settings l kept asked w k h)
+one_cause settings l kept asked KeptCells (Closure j) h k = absurd (passed_too_much settings l kept asked j k h)
 one_cause settings l kept asked KeptCells KeptCells h k = refl
 one_cause settings l kept asked KeptCells Fault h k = absurd k
 one_cause settings l kept asked KeptCells Memory h k = absurd k

@@ -24,7 +24,7 @@ use Rattle.statement_answers.specs.declared.settings.Settings.{Settings}
 use Rattle.statement_answers.specs.Loops.{closed_at, pairs_of, IsClosurePassed, IsFitLoop, IsPairing, IsUnpaired, unclosed_of}
 use Rattle.statement_answers.specs.Pieces.{KeepsSilent}
 use Rattle.statement_answers.specs.declared.errors.Unanswered.{Unanswered}
-use Rattle.statement_answers.specs.declared.errors.Unanswered.TheVariants.{Unbuilt, Heavy, NoPower, Closure, KeptCells, Fault, Memory}
+use Rattle.statement_answers.specs.declared.errors.Unanswered.TheVariants.{Heavy, NotWeak, NoPower, Closure, KeptCells, Fault, Memory}
 use Rattle.statement_answers.proofs.Conditions.{compiled_over, passed_over}
 
 -- the closure over the least power is the formula of the pairs
@@ -99,8 +99,8 @@ loop_silent settings kept name vars l f {U = U} r h silent = by r (subst (λ g. 
   where
     by : (r : Result U Unanswered) → KeepsSilent settings kept (Set name vars (pairs_of l)) r → KeepsSilent settings kept (Loop name vars l) r
     by (Ok u) k = (h.has, k)
-    by (Err Unbuilt) k = (h.has, k)
     by (Err Heavy) k = (h.has, k)
+    by (Err (NotWeak sign whole stem accept reject)) k = (h.has, k)
     by (Err NoPower) k = absurd k
     by (Err (Closure which)) k = absurd k
     by (Err KeptCells) k = (h.has, k)
@@ -109,8 +109,8 @@ loop_silent settings kept name vars l f {U = U} r h silent = by r (subst (λ g. 
 
 -- a loop without pairs is not kept
 pub unpaired_silent : (settings : Settings) (kept : List KeptSet) (name : List ℕ) (vars : List (List ℕ × Sort)) (l : Body) (U : Type 0) (e : Unanswered) → IsUnpaired settings.base l e → KeepsSilent settings kept (Loop name vars l) {U = U} (Err e)
-unpaired_silent settings kept name vars l U Unbuilt h = absurd h
 unpaired_silent settings kept name vars l U Heavy h = absurd h
+unpaired_silent settings kept name vars l U (NotWeak sign whole stem accept reject) h = absurd h
 unpaired_silent settings kept name vars l U NoPower h = h
 unpaired_silent settings kept name vars l U (Closure which) h = h
 unpaired_silent settings kept name vars l U KeptCells h = absurd h

@@ -16,17 +16,15 @@ use Rattle.set_answers.specs.Solving.{IsSolved}
 use Rattle.set_answers.specs.Vectors.{IsVectorOf}
 use Rattle.fraction_codes.specs.declared.ratio.Ratio.{Ratio}
 use Rattle.product_ops.specs.Products.{HaveSameKind}
-use Rattle.set_compile.specs.Compiling.{IsRefused}
-use Rattle.set_compile.specs.Conditions.{IsBuilt}
 use Rattle.script_names.specs.Kept.{KeptSet}
 use Rattle.lash_io.proofs.Holding.{holds_none}
 use Rattle.statement_meaning.specs.Asking.{Asked, Show, Set, Check}
 use Rattle.statement_answers.specs.Automata.{cells_of, IsAnswer}
 use Rattle.statement_answers.specs.declared.settings.Settings.{Settings}
 use Rattle.statement_answers.specs.Keeping.{kept_cells_limit, cells_of_all, IsHeld, Library, IsLibrary, sets_kept}
-use Rattle.statement_answers.specs.Pieces.{IsShownAs, IsSolvedAs, IsDecided, IsKeptWith, IsPieceOf, IsUnbuilt, IsHeavyAsked, Answered, IsSaid, KeepsSilent, HasNoAutomaton}
+use Rattle.statement_answers.specs.Pieces.{IsShownAs, IsSolvedAs, IsDecided, IsKeptWith, IsPieceOf, IsSetRefused, IsRefusedAsked, Answered, IsSaid, KeepsSilent, HasNoAutomaton}
 use Rattle.statement_answers.specs.declared.errors.Unanswered.{Unanswered}
-use Rattle.statement_answers.specs.declared.errors.Unanswered.TheVariants.{Unbuilt, Heavy, NoPower, Closure, KeptCells, Fault, Memory}
+use Rattle.statement_answers.specs.declared.errors.Unanswered.TheVariants.{Heavy, NotWeak, NoPower, Closure, KeptCells, Fault, Memory}
 use Rattle.statement_answers.proofs.Shelving.{automata, cells_alike}
 use Rattle.statement_answers.proofs.TableKinds.{diagram_if_whole, kinds_alike}
 
@@ -40,8 +38,8 @@ decided settings kept asked b line other P before after fb fa {U = U} r iff give
 
     by : (b' : Bool) → b ≡ b' → (r : Result U Unanswered) → IsSaid (cond b line other) before after fb fa r → Answered settings kept asked before after fb fa r
     by b' q (Ok u) said = (cond b line other, (gives (cond b line other) (right b refl), said))
-    by b' q (Err Unbuilt) said = absurd said
     by b' q (Err Heavy) said = absurd said
+    by b' q (Err (NotWeak sign whole stem accept reject)) said = absurd said
     by b' q (Err NoPower) said = absurd said
     by b' q (Err (Closure which)) said = absurd said
     by b' q (Err KeptCells) said = absurd said
@@ -113,16 +111,15 @@ tested settings k header t values inside h count says = says (sorts_of k.vars) k
 
 -- a statement about one set, which has no automaton
 pub none_silent : (settings : Settings) (kept : List KeptSet) (asked : Asked) (vars : List (List ℕ × Sort)) (f : Formula) (U : Type 0) (e : Unanswered)
-    → ((IsBuilt (sorts_of vars) f → ⊥) → IsUnbuilt settings kept asked)
-    → (IsBuilt (sorts_of vars) f × IsRefused settings.base settings.cells (sorts_of vars) f → IsHeavyAsked settings kept asked)
+    → ((u : Unanswered) → IsSetRefused settings vars f u → IsRefusedAsked settings kept asked u)
     → HasNoAutomaton settings vars f e → KeepsSilent settings kept asked {U = U} (Err e)
-none_silent settings kept asked vars f U Unbuilt unbuilt heavy h = unbuilt h
-none_silent settings kept asked vars f U Heavy unbuilt heavy h = heavy h
-none_silent settings kept asked vars f U NoPower unbuilt heavy h = absurd h
-none_silent settings kept asked vars f U (Closure which) unbuilt heavy h = absurd h
-none_silent settings kept asked vars f U KeptCells unbuilt heavy h = absurd h
-none_silent settings kept asked vars f U Fault unbuilt heavy h = h
-none_silent settings kept asked vars f U Memory unbuilt heavy h = tt
+none_silent settings kept asked vars f U Heavy refused h = refused Heavy h
+none_silent settings kept asked vars f U (NotWeak sign whole stem accept reject) refused h = refused (NotWeak sign whole stem accept reject) h
+none_silent settings kept asked vars f U NoPower refused h = absurd h
+none_silent settings kept asked vars f U (Closure which) refused h = absurd h
+none_silent settings kept asked vars f U KeptCells refused h = absurd h
+none_silent settings kept asked vars f U Fault refused h = h
+none_silent settings kept asked vars f U Memory refused h = tt
 
 -- a set that was put, or not
 pub put_silent : (l : Library) (name : List ℕ) (vars : List (List ℕ × Sort)) (f : Formula) (t : Table) {U : Type 0} (r : Result U Unanswered) → IsLibrary l → IsAnswer l.settings vars f t → OnOk r (l.cells + cells_of t ≤ kept_cells_limit) → IfErr r (λ e. e ≡ KeptCells → kept_cells_limit < l.cells + cells_of t) → IfErr r (λ e. (e ≡ KeptCells) ⊎ (e ≡ Memory)) → KeepsSilent l.settings (sets_kept l) (Set name vars f) r
@@ -151,8 +148,8 @@ put_silent l name vars f t {U = U} r h a within over only = by r within over onl
 -- what is shown rests on no kept set
 pub shown : (s settings : Settings) (kept : List KeptSet) (vars : List (List ℕ × Sort)) (f : Formula) (before after : Option (List ℕ)) (fb fa : ℕ) {U : Type 0} (r : Result U Unanswered) → s ≡ settings → Answered s [] (Show vars f) before after fb fa r → Answered settings kept (Show vars f) before after fb fa r
 shown s settings kept vars f before after fb fa {U = U} (Ok u) e h = subst (λ x. Answered x kept (Show vars f) before after fb fa {U = U} (Ok u)) e h
-shown s settings kept vars f before after fb fa {U = U} (Err Unbuilt) e h = h
 shown s settings kept vars f before after fb fa {U = U} (Err Heavy) e h = subst (λ x. Answered x kept (Show vars f) before after fb fa {U = U} (Err Heavy)) e h
+shown s settings kept vars f before after fb fa {U = U} (Err (NotWeak sign whole stem accept reject)) e h = subst (λ x. Answered x kept (Show vars f) before after fb fa {U = U} (Err (NotWeak sign whole stem accept reject))) e h
 shown s settings kept vars f before after fb fa {U = U} (Err NoPower) e h = h
 shown s settings kept vars f before after fb fa {U = U} (Err (Closure which)) e h = h
 shown s settings kept vars f before after fb fa {U = U} (Err KeptCells) e h = h
@@ -163,8 +160,8 @@ shown s settings kept vars f before after fb fa {U = U} (Err Memory) e h = h
 pub checked : (s settings : Settings) (kept : List KeptSet) (f : Formula) (before after : Option (List ℕ)) (fb fa : ℕ) {U : Type 0} (r : Result U Unanswered)
     → s ≡ settings → Answered s [] (Check f) before after fb fa r → Answered settings kept (Check f) before after fb fa r
 checked s settings kept f before after fb fa {U = U} (Ok u) e h = subst (λ x. Answered x kept (Check f) before after fb fa {U = U} (Ok u)) e h
-checked s settings kept f before after fb fa {U = U} (Err Unbuilt) e h = h
 checked s settings kept f before after fb fa {U = U} (Err Heavy) e h = subst (λ x. Answered x kept (Check f) before after fb fa {U = U} (Err Heavy)) e h
+checked s settings kept f before after fb fa {U = U} (Err (NotWeak sign whole stem accept reject)) e h = subst (λ x. Answered x kept (Check f) before after fb fa {U = U} (Err (NotWeak sign whole stem accept reject))) e h
 checked s settings kept f before after fb fa {U = U} (Err NoPower) e h = h
 checked s settings kept f before after fb fa {U = U} (Err (Closure which)) e h = h
 checked s settings kept f before after fb fa {U = U} (Err KeptCells) e h = h
@@ -174,8 +171,8 @@ checked s settings kept f before after fb fa {U = U} (Err Memory) e h = h
 -- a statement that writes nothing leaves the sink as it was
 pub kept_silently : (settings : Settings) (kept : List KeptSet) (asked : Asked) (held : Option (List ℕ)) (faults : ℕ) {U : Type 0} (r : Result U Unanswered) → KeepsSilent settings kept asked r → Answered settings kept asked held held faults faults r
 kept_silently settings kept asked held faults (Ok u) h = ([], (h, holds_none held))
-kept_silently settings kept asked held faults (Err Unbuilt) h = (h, holds_none held)
 kept_silently settings kept asked held faults (Err Heavy) h = (h, holds_none held)
+kept_silently settings kept asked held faults (Err (NotWeak sign whole stem accept reject)) h = (h, holds_none held)
 kept_silently settings kept asked held faults (Err NoPower) h = (h, holds_none held)
 kept_silently settings kept asked held faults (Err (Closure which)) h = (h, holds_none held)
 kept_silently settings kept asked held faults (Err KeptCells) h = (h, holds_none held)

@@ -7,7 +7,7 @@ use Rattle.part_laws.specs.CanonicalMixed.{IsCanonicalTable}
 use Rattle.formula_core.specs.FewLetters.{FitsLetters}
 use Rattle.formula_core.specs.Variables.{sorts_of}
 use Rattle.set_compile.specs.Compiling.{IsCompiled}
-use Rattle.set_compile.specs.Conditions.{IsOver, IsBuilt}
+use Rattle.set_compile.specs.Conditions.{IsOver}
 use Rattle.statement_answers.specs.declared.settings.Settings.{Settings}
 
 -- what a set of a script has: its terms are over its variables and inside the limits, and its letters are few
@@ -15,10 +15,9 @@ pub record IsGiven (base : ℕ) (vars : List (List ℕ × Sort)) (f : Formula) :
   pub over : IsOver (length vars) f
   pub letters : FitsLetters base f (length vars)
 
--- the automaton of a set that is built: the canonical one in the base, over all variables, that stands for the set; each step that builds it
--- is within the limit of cells
+-- the automaton of a set: the canonical one in the base, over all variables, that stands for the set; each step that builds it is within the
+-- limit of cells, and has a weak automaton
 pub record IsAnswer (settings : Settings) (vars : List (List ℕ × Sort)) (f : Formula) (t : Table) : Type 0 where
-  pub built : IsBuilt (sorts_of vars) f
   pub stands : StandsFor t (sorts_of vars) f
   pub canonical : IsCanonicalTable t
   pub base : t.base ≡ settings.base

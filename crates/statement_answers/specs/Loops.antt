@@ -17,7 +17,7 @@ use Rattle.script_meaning.specs.Core.{truth}
 use Rattle.script_meaning.specs.declared.limits.Which.{Which}
 use Rattle.script_meaning.specs.declared.limits.Which.TheVariants as limit
 use Rattle.statement_answers.specs.declared.errors.Unanswered.{Unanswered}
-use Rattle.statement_answers.specs.declared.errors.Unanswered.TheVariants.{Unbuilt, Heavy, NoPower, Closure, KeptCells, Fault, Memory}
+use Rattle.statement_answers.specs.declared.errors.Unanswered.TheVariants.{Heavy, NotWeak, NoPower, Closure, KeptCells, Fault, Memory}
 
 -- the closure over a power; there is none without one
 abbrev pub closed_at : Body → Option ℕ → Formula
@@ -69,8 +69,8 @@ pub record IsFitLoop (kept : List KeptSet) (name : List ℕ) (vars : List (List 
 abbrev pub IsUnpaired : ℕ → Body → Unanswered → Type 0
 IsUnpaired base l NoPower = HasNoPower l.matrix
 IsUnpaired base l (Closure which) = IsClosurePassed base l which
-IsUnpaired base l Unbuilt = ⊥
 IsUnpaired base l Heavy = ⊥
+IsUnpaired base l (NotWeak sign whole stem accept reject) = ⊥
 IsUnpaired base l KeptCells = ⊥
 IsUnpaired base l Fault = ⊥
 IsUnpaired base l Memory = Unit {0}

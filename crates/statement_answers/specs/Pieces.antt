@@ -15,7 +15,7 @@ use Rattle.set_answers.specs.Differences.{AreWithin, all_tracks}
 use Rattle.set_answers.specs.Solving.{IsSolved}
 use Rattle.set_answers.specs.Vectors.{IsVectorOf, HasCoarseDenominator}
 use Rattle.set_compile.specs.Compiling.{IsRefused}
-use Rattle.set_compile.specs.Conditions.{IsBuilt}
+use Rattle.set_compile.specs.declared.errors.CompileError.TheVariants as compiling
 use Rattle.script_names.specs.Kept.{KeptSet, IsKept, kept_place, sets_limit}
 use Rattle.statement_meaning.specs.Asking.{Asked, Show, Set, Print, Solve, Test, Equal, Subset, Check, Loop}
 use Rattle.statement_answers.specs.Automata.{cells_of, IsGiven, IsAnswer}
@@ -25,7 +25,7 @@ use Rattle.script_meaning.specs.declared.limits.Which.{Which}
 use Rattle.statement_answers.specs.Loops.{pairs_of, HasPairs, IsClosurePassed, IsFitLoop}
 use Rattle.statement_answers.specs.declared.settings.Settings.{Settings}
 use Rattle.statement_answers.specs.declared.errors.Unanswered.{Unanswered}
-use Rattle.statement_answers.specs.declared.errors.Unanswered.TheVariants.{Unbuilt, Heavy, NoPower, Closure, KeptCells, Fault, Memory}
+use Rattle.statement_answers.specs.declared.errors.Unanswered.TheVariants.{Heavy, NotWeak, NoPower, Closure, KeptCells, Fault, Memory}
 
 -- the text of the set's automaton
 pub record IsShownAs (settings : Settings) (vars : List (List ℕ × Sort)) (f : Formula) (piece : List ℕ) : Type 0 where
@@ -78,29 +78,27 @@ IsPieceOf settings kept (Subset i j) piece = OfTwo kept i j (λ k l. ArePaired s
 IsPieceOf settings kept (Loop name vars body) piece = HasPairs settings.base body × ((piece ≡ []) × IsKeptWith settings kept vars (pairs_of body) (λ n. n ≤ kept_cells_limit))
 IsPieceOf settings kept (Check f) piece = ((t : Table) × IsAnswer settings [] f t) × IsDecided (codes "true\n") (codes "false\n") (Solves [] f [] 1) piece
 
--- the formula, or that of the loop's pairs, is not built yet: it has a real variable, declared or bound, and binds a variable
-abbrev pub IsUnbuilt : Settings → List KeptSet → Asked → Type 0
-IsUnbuilt settings kept (Show vars f) = IsBuilt (sorts_of vars) f → ⊥
-IsUnbuilt settings kept (Set name vars f) = IsBuilt (sorts_of vars) f → ⊥
-IsUnbuilt settings kept (Print at) = ⊥
-IsUnbuilt settings kept (Solve at) = ⊥
-IsUnbuilt settings kept (Test at values) = ⊥
-IsUnbuilt settings kept (Equal i j) = ⊥
-IsUnbuilt settings kept (Subset i j) = ⊥
-IsUnbuilt settings kept (Check f) = IsBuilt [] f → ⊥
-IsUnbuilt settings kept (Loop name vars body) = HasPairs settings.base body × (IsBuilt (sorts_of vars) (pairs_of body) → ⊥)
+-- the automaton of a set is refused with this answer
+abbrev pub IsSetRefused : Settings → List (List ℕ × Sort) → Formula → Unanswered → Type 0
+IsSetRefused settings vars f Heavy = IsRefused settings.base settings.cells (sorts_of vars) f compiling.Heavy
+IsSetRefused settings vars f (NotWeak sign whole stem accept reject) = IsRefused settings.base settings.cells (sorts_of vars) f (compiling.NotWeak sign whole stem accept reject)
+IsSetRefused settings vars f NoPower = ⊥
+IsSetRefused settings vars f (Closure which) = ⊥
+IsSetRefused settings vars f KeptCells = ⊥
+IsSetRefused settings vars f Fault = ⊥
+IsSetRefused settings vars f Memory = ⊥
 
--- a construction has too many cells
-abbrev pub IsHeavyAsked : Settings → List KeptSet → Asked → Type 0
-IsHeavyAsked settings kept (Show vars f) = IsBuilt (sorts_of vars) f × IsRefused settings.base settings.cells (sorts_of vars) f
-IsHeavyAsked settings kept (Set name vars f) = IsBuilt (sorts_of vars) f × IsRefused settings.base settings.cells (sorts_of vars) f
-IsHeavyAsked settings kept (Print at) = ⊥
-IsHeavyAsked settings kept (Solve at) = ⊥
-IsHeavyAsked settings kept (Test at values) = ⊥
-IsHeavyAsked settings kept (Equal i j) = ⊥
-IsHeavyAsked settings kept (Subset i j) = OfTwo kept i j (AreHeavyPairs settings)
-IsHeavyAsked settings kept (Check f) = IsBuilt [] f × IsRefused settings.base settings.cells [] f
-IsHeavyAsked settings kept (Loop name vars body) = HasPairs settings.base body × (IsBuilt (sorts_of vars) (pairs_of body) × IsRefused settings.base settings.cells (sorts_of vars) (pairs_of body))
+-- the automaton of what is asked is refused with this answer: the formula's, or that of the loop's pairs, or the product of two sets' automata
+abbrev pub IsRefusedAsked : Settings → List KeptSet → Asked → Unanswered → Type 0
+IsRefusedAsked settings kept (Show vars f) e = IsSetRefused settings vars f e
+IsRefusedAsked settings kept (Set name vars f) e = IsSetRefused settings vars f e
+IsRefusedAsked settings kept (Print at) e = ⊥
+IsRefusedAsked settings kept (Solve at) e = ⊥
+IsRefusedAsked settings kept (Test at values) e = ⊥
+IsRefusedAsked settings kept (Equal i j) e = ⊥
+IsRefusedAsked settings kept (Subset i j) e = (e ≡ Heavy) × OfTwo kept i j (AreHeavyPairs settings)
+IsRefusedAsked settings kept (Check f) e = IsSetRefused settings [] f e
+IsRefusedAsked settings kept (Loop name vars body) e = HasPairs settings.base body × IsSetRefused settings vars (pairs_of body) e
 
 -- the kept sets would have too many cells with this one
 abbrev pub IsTooMuch : Settings → List KeptSet → Asked → Type 0
@@ -141,8 +139,8 @@ IsPassedByClosure settings which kept (Loop name vars body) = IsClosurePassed se
 -- what answering a statement left of a sink
 abbrev pub Answered : Settings → List KeptSet → Asked → Option (List ℕ) → Option (List ℕ) → ℕ → ℕ → {U : Type 0} → Result U Unanswered → Type 0
 Answered settings kept asked before after faults_before faults_after (Ok u) = (piece : List ℕ) × (IsPieceOf settings kept asked piece × Holds before after piece)
-Answered settings kept asked before after faults_before faults_after (Err Unbuilt) = IsUnbuilt settings kept asked × Holds before after []
-Answered settings kept asked before after faults_before faults_after (Err Heavy) = IsHeavyAsked settings kept asked × Holds before after []
+Answered settings kept asked before after faults_before faults_after (Err Heavy) = IsRefusedAsked settings kept asked Heavy × Holds before after []
+Answered settings kept asked before after faults_before faults_after (Err (NotWeak sign whole stem accept reject)) = IsRefusedAsked settings kept asked (NotWeak sign whole stem accept reject) × Holds before after []
 Answered settings kept asked before after faults_before faults_after (Err NoPower) = IsPowerless kept asked × Holds before after []
 Answered settings kept asked before after faults_before faults_after (Err (Closure which)) = IsPassedByClosure settings which kept asked × Holds before after []
 Answered settings kept asked before after faults_before faults_after (Err KeptCells) = IsTooMuch settings kept asked × Holds before after []
@@ -170,8 +168,8 @@ IsFit settings kept (Loop name vars body) = IsFitLoop kept name vars body
 -- the line was put, or a part of it and a fault was counted
 abbrev pub IsSaid : List ℕ → Option (List ℕ) → Option (List ℕ) → ℕ → ℕ → {U : Type 0} → Result U Unanswered → Type 0
 IsSaid line before after faults_before faults_after (Ok u) = Holds before after line
-IsSaid line before after faults_before faults_after (Err Unbuilt) = ⊥
 IsSaid line before after faults_before faults_after (Err Heavy) = ⊥
+IsSaid line before after faults_before faults_after (Err (NotWeak sign whole stem accept reject)) = ⊥
 IsSaid line before after faults_before faults_after (Err NoPower) = ⊥
 IsSaid line before after faults_before faults_after (Err (Closure which)) = ⊥
 IsSaid line before after faults_before faults_after (Err KeptCells) = ⊥
@@ -181,8 +179,8 @@ IsSaid line before after faults_before faults_after (Err Memory) = ⊥
 -- the same of a statement that writes nothing
 abbrev pub KeepsSilent : Settings → List KeptSet → Asked → {U : Type 0} → Result U Unanswered → Type 0
 KeepsSilent settings kept asked (Ok u) = IsPieceOf settings kept asked []
-KeepsSilent settings kept asked (Err Unbuilt) = IsUnbuilt settings kept asked
-KeepsSilent settings kept asked (Err Heavy) = IsHeavyAsked settings kept asked
+KeepsSilent settings kept asked (Err Heavy) = IsRefusedAsked settings kept asked Heavy
+KeepsSilent settings kept asked (Err (NotWeak sign whole stem accept reject)) = IsRefusedAsked settings kept asked (NotWeak sign whole stem accept reject)
 KeepsSilent settings kept asked (Err NoPower) = IsPowerless kept asked
 KeepsSilent settings kept asked (Err (Closure which)) = IsPassedByClosure settings which kept asked
 KeepsSilent settings kept asked (Err KeptCells) = IsTooMuch settings kept asked
@@ -191,16 +189,16 @@ KeepsSilent settings kept asked (Err Memory) = Unit
 
 -- why a set has no automaton
 abbrev pub HasNoAutomaton : Settings → List (List ℕ × Sort) → Formula → Unanswered → Type 0
-HasNoAutomaton settings vars f Unbuilt = IsBuilt (sorts_of vars) f → ⊥
-HasNoAutomaton settings vars f Heavy = IsBuilt (sorts_of vars) f × IsRefused settings.base settings.cells (sorts_of vars) f
+HasNoAutomaton settings vars f Heavy = IsSetRefused settings vars f Heavy
+HasNoAutomaton settings vars f (NotWeak sign whole stem accept reject) = IsSetRefused settings vars f (NotWeak sign whole stem accept reject)
 HasNoAutomaton settings vars f NoPower = ⊥
 HasNoAutomaton settings vars f (Closure which) = ⊥
 HasNoAutomaton settings vars f KeptCells = ⊥
 HasNoAutomaton settings vars f Fault = ⊥
 HasNoAutomaton settings vars f Memory = Unit {0}
 
--- what a statement asks can be answered: its set is built, its steps are within the limit of cells, its set fits beside the kept ones, its loop
--- has a power and a closure within the limits
+-- what a statement asks can be answered: no step of its set is refused, its set fits beside the kept ones, its loop has a power and a closure
+-- within the limits
 abbrev pub IsAnswerable : Settings → List KeptSet → Asked → Type 0
 IsAnswerable settings kept (Show vars f) = (t : Table) × IsAnswer settings vars f t
 IsAnswerable settings kept (Set name vars f) = IsKeptWith settings kept vars f (λ n. n ≤ kept_cells_limit)
@@ -214,8 +212,8 @@ IsAnswerable settings kept (Loop name vars body) = HasPairs settings.base body �
 
 -- why it is not answered, if that rests on what is asked
 abbrev pub IsUnanswered : Settings → List KeptSet → Asked → Unanswered → Type 0
-IsUnanswered settings kept asked Unbuilt = IsUnbuilt settings kept asked
-IsUnanswered settings kept asked Heavy = IsHeavyAsked settings kept asked
+IsUnanswered settings kept asked Heavy = IsRefusedAsked settings kept asked Heavy
+IsUnanswered settings kept asked (NotWeak sign whole stem accept reject) = IsRefusedAsked settings kept asked (NotWeak sign whole stem accept reject)
 IsUnanswered settings kept asked NoPower = IsPowerless kept asked
 IsUnanswered settings kept asked (Closure which) = IsPassedByClosure settings which kept asked
 IsUnanswered settings kept asked KeptCells = IsTooMuch settings kept asked

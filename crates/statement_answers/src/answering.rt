@@ -196,10 +196,10 @@ fn check<K: Sink>(
 ///
 /// # Errors
 /// `NoPower` if no power of a loop's matrix comes again, and `Closure` if its closure passes a limit, the first in the order of the
-/// variant; `Unbuilt` if its formula, or its closure, has a real variable, declared or bound, and binds a variable; `Heavy` if a
-/// construction has more cells than the settings allow, and `KeptCells` if the kept sets would have more than 67,108,864 together;
-/// nothing is written then. `Fault` if the sink counted a fault; a part of the piece is written. `Memory` if the program is out of memory,
-/// before a byte of the piece is written; `print` and `equal` take none. Each leaves the kept sets as they were.
+/// variant; `Heavy` if a construction has more cells than the settings allow, and `NotWeak` if no weak automaton has the set of a formula
+/// that binds a variable, whichever construction is refused first; `KeptCells` if the kept sets would have more than 67,108,864 cells
+/// together; nothing is written then. `Fault` if the sink counted a fault; a part of the piece is written. `Memory` if the program is
+/// out of memory, before a byte of the piece is written; `print` and `equal` take none. Each leaves the kept sets as they were.
 pub fn answer<K: Sink>(
     alloc: Global,
     library: &mut Library,

@@ -8,11 +8,11 @@ ghost use Rattle.statement_answers.specs.Pieces.{HasNoAutomaton};
 use crate::errors::Unanswered;
 use crate::settings::Settings;
 use formula_core::{Formula, Vars};
-use set_compile::{CompileError, compile, is_built};
+use set_compile::{CompileError, compile};
 use std::alloc::Global;
 use weak_min::Canon;
 
-/// The canonical table of a set. `Unbuilt` comes if a variable is real, declared or bound, and the formula binds a variable.
+/// The canonical table of a set. If a construction is refused, `Heavy` and `NotWeak` say which refusal the first one gives.
 pub(crate) fn automaton(
     alloc: Global,
     settings: Settings,
@@ -25,12 +25,24 @@ pub(crate) fn automaton(
     ensures cause { IfErr result (λ e. HasNoAutomaton settings vars.now (formula_of formula.now) e) }
 {
     let sorts = vars.sorts();
-    if !is_built(sorts, formula) {
-        return Err(Unanswered::Unbuilt);
-    }
     match compile(alloc, settings.base, sorts, formula, settings.cells) {
         Ok(canon) => Ok(canon),
         Err(CompileError::Heavy) => Err(Unanswered::Heavy),
+        Err(
+            CompileError::NotWeak {
+                sign,
+                whole,
+                stem,
+                accept,
+                reject,
+            },
+        ) => Err(Unanswered::NotWeak {
+            sign,
+            whole,
+            stem,
+            accept,
+            reject,
+        }),
         Err(CompileError::Memory) => Err(Unanswered::Memory),
     }
 }

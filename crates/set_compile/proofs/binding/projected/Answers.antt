@@ -1,15 +1,12 @@
-use Rattle.std.proofs.Common.{◌≡◌, refl, arith, ◌∙◌, sym, subst}
-use Rattle.lash_model.specs.Standing.{StandsForWhole}
-use Rattle.lash_model.specs.Sets.{set_of, bound_at}
+use Rattle.std.proofs.Common.{◌≡◌, arith, ◌∙◌, subst}
 use Rattle.canonical_laws.specs.Canonical.{AcceptSameWords}
-use Rattle.canonical_laws.proofs.Carrying.{stands_carried}
 use Rattle.step_tables.specs.Kept.{Kept}
 use Rattle.subset_build.specs.Projection.{kept}
 use Rattle.set_compile.specs.Kinds.{IsShaped}
 use Rattle.set_compile.specs.Steps.{IsOfSubsets}
 use Rattle.set_compile.specs.declared.build.Mode.TheVariants.{Whole}
 use Rattle.set_compile.proofs.Carrying.{some_kept}
-use Rattle.set_compile.proofs.Modes.{diagram_too, same_words}
+use Rattle.set_compile.proofs.Modes.{same_words}
 use Rattle.set_compile.proofs.binding.projected.Goals as goal
 
 pub returns-in-Ok-minimized-clause-shape : goal.returns-in-Ok-minimized-clause-shape
@@ -27,18 +24,9 @@ returns-in-Ok-minimized-clause-made c =
     let u = c.in-Ok-minimized.made.table in
     let tracks : t.tracks ≡ kept b.table = omega (arith, c.in-Ok.ensures.tracks) in
     let words : AcceptSameWords t u = same_words t u c.in-Ok.ensures.diagram c.in-Ok-minimized.ensures.same in
-    let made : IsOfSubsets Whole b.table c.args.track c.args.limit u = record {
-      whole = refl;
+    let made : IsOfSubsets b.table c.args.track c.args.limit u = record {
       subset_table = t;
       counts = c.in-Ok.ensures.subsets;
       words = some_kept b.table c.args.track t u c.in-Ok.ensures.base tracks c.in-Ok.ensures.words words;
     } in
-    subst (λ (k : Kept). IsOfSubsets Whole k.table c.args.track c.args.limit u) c.table.ensures.value made
-
-pub returns-in-Ok-minimized-clause-stands : goal.returns-in-Ok-minimized-clause-stands
-returns-in-Ok-minimized-clause-stands c = λ f s p.
-    let t = c.in-Ok.table.table in
-    let u = c.in-Ok-minimized.made.table in
-    stands_carried t u (bound_at c.args.track (set_of f s)) (sym c.in-Ok-minimized.ensures.base) (sym c.in-Ok-minimized.ensures.tracks)
-    (diagram_too t u c.in-Ok-minimized.ensures.kind c.in-Ok.ensures.diagram) (same_words t u c.in-Ok.ensures.diagram c.in-Ok-minimized.ensures.same)
-    (c.in-Ok.ensures.stands f s (subst (λ (k : Kept). StandsForWhole k.table (set_of f s)) (sym c.table.ensures.value) p))
+    subst (λ (k : Kept). IsOfSubsets k.table c.args.track c.args.limit u) c.table.ensures.value made

@@ -4,7 +4,7 @@ use Rattle.step_tables.specs.Kept.{Kept}
 use Rattle.formula_core.specs.Counts.{free_places}
 use Rattle.formula_core.specs.Shape.{formula_of}
 use Rattle.set_compile.proofs.Spreading.{full_stands}
-use Rattle.set_compile.proofs.Widening.{fewer_free, heavy_later}
+use Rattle.set_compile.proofs.Widening.{fewer_free, refused_later}
 use Rattle.set_compile.proofs.compiling.on_all_tracks.Goals as goal
 
 pub returns-then-tracks-places-clause-shape : goal.returns-then-tracks-places-clause-shape
@@ -35,10 +35,10 @@ returns-in-Ok-widened-clause-made c =
     let less : length (free_places f m) < m = fewer_free f m t.tracks c.in-Ok.ensures.shape.tracks_are (λ e. c.if-tracks-places.false (c.tracks.ensures ∙ ap (λ (k : Kept). k.table.tracks) c.table.ensures.value ∙ e)) in
     inr (less, c.in-Ok-widened.ensures.widened)
 
-pub returns-clause-heavy : goal.returns-clause-heavy
-returns-clause-heavy c = λ is.
+pub returns-clause-refused : goal.returns-clause-refused
+returns-clause-refused c = λ no.
     let m : ℕ = c.args.places in
     let f = formula_of c.args.formula.now in
     let t = c.in-Ok.made.table in
     let less : length (free_places f m) < m = fewer_free f m t.tracks c.in-Ok.ensures.shape.tracks_are (λ e. c.if-tracks-places.false (c.tracks.ensures ∙ ap (λ (k : Kept). k.table.tracks) c.table.ensures.value ∙ e)) in
-    heavy_later c.args.build.now m f t less c.in-Ok.ensures.made (c.in-Err-widened.ensures.heavy is)
+    refused_later c.args.build.now m f t c.in-Err-widened.error less c.in-Ok.ensures.made (c.in-Err-widened.ensures.refused no)

@@ -44,17 +44,21 @@ returns-in-Ok-join-clause-stands c =
     let both : Stands c.in-Ok-join.wide.table (joined Both (set_of f (spread m (free_places f m))) (set_of always (spread m (free_places always m))) (all_tracks f m)) = subst (λ (k : TrackLists). Stands c.in-Ok-join.wide.table (joined Both (set_of f (spread m (free_places f m))) (set_of always (spread m (free_places always m))) k)) c.in-Ok-wide_map.ensures.tracks (c.in-Ok-join.ensures.stands f always (spread m (free_places f m)) (spread m (free_places always m)) c.requires.stands c.in-Ok.ensures.stands) in
     wide_stands c.depends_on_free_places.ensures.used c.in-Ok-join.wide.table f m c.in-Ok-wide_map.ensures.linear ((c.in-Ok-join.ensures.shape c.args.build.now.mode (shape_of c.args.build.now m f c.args.made.now.table c.requires.made).kind).tracks_are ∙ ap (λ (k : TrackLists). k.tracks) c.in-Ok-wide_map.ensures.tracks) both
 
-pub returns-clause-heavy : goal.returns-clause-heavy
-returns-clause-heavy c = λ is.
+pub returns-clause-refused : goal.returns-clause-refused
+returns-clause-refused c = λ no.
+    let is = c.in-Err-join.ensures.plain no in
     let u : Table = c.args.made.now.table in
     let v : Table = c.in-Ok.whole.table in
     inr (
-      u,
+      is,
       (
-        v,
+        u,
         (
-          (c.requires.made, c.in-Ok.ensures.made),
-          subst (λ (k : TrackLists). IsHeavyProduct u v k c.args.build.now.limit) c.in-Ok-wide_map.ensures.tracks (c.in-Err-join.ensures.heavy is),
+          v,
+          (
+            (c.requires.made, c.in-Ok.ensures.made),
+            subst (λ (k : TrackLists). IsHeavyProduct u v k c.args.build.now.limit) c.in-Ok-wide_map.ensures.tracks (c.in-Err-join.ensures.heavy is),
+          ),
         ),
       ),
     )

@@ -15,13 +15,13 @@ use Rattle.product_ops.specs.declared.operation.Op.TheVariants.{And as Both, Or 
 use Rattle.set_compile.specs.Conditions.{IsOver, Binds, IsNarrow}
 use Rattle.set_compile.specs.Positions.{shared, spread}
 use Rattle.set_compile.specs.Kinds.{IsOfMode, Stands, AcceptOthers, IsShaped}
-use Rattle.set_compile.specs.Steps.{IsOfPairs, IsMade, IsFirstHeavy}
+use Rattle.set_compile.specs.Steps.{IsOfPairs, IsMade, IsFirstRefused}
 use Rattle.set_compile.specs.declared.errors.CompileError.{CompileError}
-use Rattle.set_compile.specs.declared.errors.CompileError.TheVariants.{Heavy}
+use Rattle.set_compile.specs.declared.errors.CompileError.TheVariants.{Heavy, Memory}
 use Rattle.set_compile.specs.declared.build.Mode.{Mode}
 use Rattle.set_compile.proofs.Making.{shape_of}
 use Rattle.set_compile.proofs.Spreading.{not_stands, and_stands, or_stands}
-use Rattle.set_compile.proofs.NodeSteps.{both_ok, atom_letters, atom_shape, atom_made, atom_stands, atom_heavy, not_made, and_made, or_made, err_weaker, and_pairs_heavy, or_pairs_heavy}
+use Rattle.set_compile.proofs.NodeSteps.{both_ok, atom_letters, atom_shape, atom_made, atom_stands, atom_refused, not_made, and_made, or_made, both_err, and_pairs_refused, or_pairs_refused}
 use Rattle.set_compile.proofs.nodes.+part.Goals as goal
 
 -- ---- conjunctions
@@ -54,18 +54,19 @@ conjunction-returns-clause-stands t c =
     (subst (λ h. Stands k.table (joined Both (set_of f (spread m (free_places f m))) (set_of g (spread m (free_places g m))) (shared h f g m))) c.requires.whole
     (joins f g (spread m (free_places f m)) (spread m (free_places g m)) c.in-Ok.ensures.stands c.in-Ok-part.ensures.stands))) c.joined.ensures.stands
 
-pub conjunction-returns-clause-heavy : goal.conjunction-returns-clause-heavy
-conjunction-returns-clause-heavy t c =
+pub conjunction-returns-clause-refused : goal.conjunction-returns-clause-refused
+conjunction-returns-clause-refused t c =
     let m = c.args.places in
     let f = formula_of c.args.left.now in
     let g = formula_of c.args.right.now in
     let u = c.in-Ok.first.table in
     let v = c.in-Ok-part.second.table in
     let P : CompileError → Type 0 = λ e. e ≡ Heavy → IsHeavyProduct u v (shared (formula_of c.args.whole.now) f g m) c.args.build.now.limit in
-    let R : CompileError → Type 0 = λ e. e ≡ Heavy → IsFirstHeavy c.args.build.now m (model.And f g) in
-    err_weaker c.joined.result P R (λ e heavy is.
-    and_pairs_heavy c.args.build.now m f g u v c.in-Ok.ensures.made c.in-Ok-part.ensures.made
-    (subst (λ h. IsHeavyProduct u v (shared h f g m) c.args.build.now.limit) c.requires.whole (heavy is))) c.joined.ensures.heavy
+    let Q : CompileError → Type 0 = λ e. (e ≡ Memory → ⊥) → e ≡ Heavy in
+    let R : CompileError → Type 0 = λ e. (e ≡ Memory → ⊥) → IsFirstRefused c.args.build.now m (model.And f g) e in
+    both_err c.joined.result P Q R (λ e heavy plain no.
+    and_pairs_refused c.args.build.now m f g u v e c.in-Ok.ensures.made c.in-Ok-part.ensures.made (plain no)
+    (subst (λ h. IsHeavyProduct u v (shared h f g m) c.args.build.now.limit) c.requires.whole (heavy (plain no)))) c.joined.ensures.heavy c.joined.ensures.plain
 
 -- ---- disjunctions
 pub disjunction-returns-clause-made : goal.disjunction-returns-clause-made
@@ -97,18 +98,19 @@ disjunction-returns-clause-stands t c =
     (subst (λ h. Stands k.table (joined Either (set_of f (spread m (free_places f m))) (set_of g (spread m (free_places g m))) (shared h f g m))) c.requires.whole
     (joins f g (spread m (free_places f m)) (spread m (free_places g m)) c.in-Ok.ensures.stands c.in-Ok-part.ensures.stands))) c.joined.ensures.stands
 
-pub disjunction-returns-clause-heavy : goal.disjunction-returns-clause-heavy
-disjunction-returns-clause-heavy t c =
+pub disjunction-returns-clause-refused : goal.disjunction-returns-clause-refused
+disjunction-returns-clause-refused t c =
     let m = c.args.places in
     let f = formula_of c.args.left.now in
     let g = formula_of c.args.right.now in
     let u = c.in-Ok.first.table in
     let v = c.in-Ok-part.second.table in
     let P : CompileError → Type 0 = λ e. e ≡ Heavy → IsHeavyProduct u v (shared (formula_of c.args.whole.now) f g m) c.args.build.now.limit in
-    let R : CompileError → Type 0 = λ e. e ≡ Heavy → IsFirstHeavy c.args.build.now m (model.Or f g) in
-    err_weaker c.joined.result P R (λ e heavy is.
-    or_pairs_heavy c.args.build.now m f g u v c.in-Ok.ensures.made c.in-Ok-part.ensures.made
-    (subst (λ h. IsHeavyProduct u v (shared h f g m) c.args.build.now.limit) c.requires.whole (heavy is))) c.joined.ensures.heavy
+    let Q : CompileError → Type 0 = λ e. (e ≡ Memory → ⊥) → e ≡ Heavy in
+    let R : CompileError → Type 0 = λ e. (e ≡ Memory → ⊥) → IsFirstRefused c.args.build.now m (model.Or f g) e in
+    both_err c.joined.result P Q R (λ e heavy plain no.
+    or_pairs_refused c.args.build.now m f g u v e c.in-Ok.ensures.made c.in-Ok-part.ensures.made (plain no)
+    (subst (λ h. IsHeavyProduct u v (shared h f g m) c.args.build.now.limit) c.requires.whole (heavy (plain no)))) c.joined.ensures.heavy c.joined.ensures.plain
 
 -- ---- Le
 pub part-atom_part-requires-clause-letters : goal.part-atom_part-requires-clause-letters
@@ -123,8 +125,8 @@ part-returns-in-Le-clause-made t c = atom_made c.args.build.now AtMost c.args.pl
 pub part-returns-in-Le-clause-stands : goal.part-returns-in-Le-clause-stands
 part-returns-in-Le-clause-stands t c = atom_stands AtMost c.args.places c.in-Le.term (formula_of c.args.formula.now) (ap formula_of c.in-Le.is) c.atom_part.ensures.linear c.requires.over c.atom_part.result c.atom_part.ensures.stands
 
-pub part-returns-in-Le-clause-heavy : goal.part-returns-in-Le-clause-heavy
-part-returns-in-Le-clause-heavy t c = atom_heavy c.args.build.now AtMost c.args.places c.in-Le.term (formula_of c.args.formula.now) (ap formula_of c.in-Le.is) c.atom_part.ensures.linear c.requires.over c.atom_part.result c.atom_part.ensures.heavy
+pub part-returns-in-Le-clause-refused : goal.part-returns-in-Le-clause-refused
+part-returns-in-Le-clause-refused t c = atom_refused c.args.build.now AtMost c.args.places c.in-Le.term (formula_of c.args.formula.now) (ap formula_of c.in-Le.is) c.atom_part.ensures.linear c.requires.over c.atom_part.result c.atom_part.ensures.heavy c.atom_part.ensures.plain
 
 -- ---- Eq
 pub part-atom_part-requires-in-Eq-clause-letters : goal.part-atom_part-requires-in-Eq-clause-letters
@@ -139,8 +141,8 @@ part-returns-in-Eq-clause-made t c = atom_made c.args.build.now Equal c.args.pla
 pub part-returns-in-Eq-clause-stands : goal.part-returns-in-Eq-clause-stands
 part-returns-in-Eq-clause-stands t c = atom_stands Equal c.args.places c.in-Eq.term (formula_of c.args.formula.now) (ap formula_of c.in-Eq.is) c.atom_part-in-Eq.ensures.linear c.requires.over c.atom_part-in-Eq.result c.atom_part-in-Eq.ensures.stands
 
-pub part-returns-in-Eq-clause-heavy : goal.part-returns-in-Eq-clause-heavy
-part-returns-in-Eq-clause-heavy t c = atom_heavy c.args.build.now Equal c.args.places c.in-Eq.term (formula_of c.args.formula.now) (ap formula_of c.in-Eq.is) c.atom_part-in-Eq.ensures.linear c.requires.over c.atom_part-in-Eq.result c.atom_part-in-Eq.ensures.heavy
+pub part-returns-in-Eq-clause-refused : goal.part-returns-in-Eq-clause-refused
+part-returns-in-Eq-clause-refused t c = atom_refused c.args.build.now Equal c.args.places c.in-Eq.term (formula_of c.args.formula.now) (ap formula_of c.in-Eq.is) c.atom_part-in-Eq.ensures.linear c.requires.over c.atom_part-in-Eq.result c.atom_part-in-Eq.ensures.heavy c.atom_part-in-Eq.ensures.plain
 
 -- ---- Not
 pub part-returns-in-Ok-clause-made : goal.part-returns-in-Ok-clause-made
@@ -205,8 +207,7 @@ part-bound-requires-clause-stands t c =
 pub part-returns-in-Ok-part-clause-shape : goal.part-returns-in-Ok-part-clause-shape
 part-returns-in-Ok-part-clause-shape t c =
     let m = c.args.places in
-    let integer : sort_of c.in-Exists.field-0 ≡ model.Int = (subst (λ h. Binds c.args.build.now.mode (formula_of h)) c.in-Exists.is c.requires.bound).1.0 in
-    let whole : model.Exists model.Int (formula_of c.deref-in-Ok-part.result.now) ≡ formula_of c.args.formula.now = ap (λ x. model.Exists model.Int (formula_of x)) c.deref-in-Ok-part.ensures ∙ ap (λ x. model.Exists x (formula_of c.in-Exists.inner.value)) (sym integer) ∙ sym (ap formula_of c.in-Exists.is) in
+    let whole : model.Exists (sort_of c.in-Exists.sort) (formula_of c.deref-in-Ok-part.result.now) ≡ formula_of c.args.formula.now = ap (λ x. model.Exists (sort_of c.in-Exists.sort) (formula_of x)) c.deref-in-Ok-part.ensures ∙ sym (ap formula_of c.in-Exists.is) in
     let P : Kept → Type 0 = λ k. IsMade c.args.build.now m (formula_of c.args.formula.now) k.table in
     let R : Kept → Type 0 = λ k. IsShaped c.args.build.now.mode c.args.build.now.base (length (free_places (formula_of c.args.formula.now) m)) k.table in
     IfOk-weaker c.bound.result P R (λ k made. shape_of c.args.build.now m (formula_of c.args.formula.now) k.table made)
@@ -215,9 +216,8 @@ part-returns-in-Ok-part-clause-shape t c =
 pub part-returns-in-Ok-part-clause-stands : goal.part-returns-in-Ok-part-clause-stands
 part-returns-in-Ok-part-clause-stands t c =
     let m = c.args.places in
-    let integer : sort_of c.in-Exists.field-0 ≡ model.Int = (subst (λ h. Binds c.args.build.now.mode (formula_of h)) c.in-Exists.is c.requires.bound).1.0 in
-    let whole : model.Exists model.Int (formula_of c.deref-in-Ok-part.result.now) ≡ formula_of c.args.formula.now = ap (λ x. model.Exists model.Int (formula_of x)) c.deref-in-Ok-part.ensures ∙ ap (λ x. model.Exists x (formula_of c.in-Exists.inner.value)) (sym integer) ∙ sym (ap formula_of c.in-Exists.is) in
+    let whole : model.Exists (sort_of c.in-Exists.sort) (formula_of c.deref-in-Ok-part.result.now) ≡ formula_of c.args.formula.now = ap (λ x. model.Exists (sort_of c.in-Exists.sort) (formula_of x)) c.deref-in-Ok-part.ensures ∙ sym (ap formula_of c.in-Exists.is) in
     subst (λ h. IfOk c.bound.result (λ (k : Kept). Stands k.table (set_of h (spread m (free_places h m))))) whole c.bound.ensures.stands
 
-pub part-bound-requires-clause-mode : goal.part-bound-requires-clause-mode
-part-bound-requires-clause-mode t c = (subst (λ h. Binds c.args.build.now.mode (formula_of h)) c.in-Exists.is c.requires.bound).0
+pub part-bound-requires-clause-sort : goal.part-bound-requires-clause-sort
+part-bound-requires-clause-sort t c = (subst (λ h. Binds c.args.build.now.mode (formula_of h)) c.in-Exists.is c.requires.bound).0

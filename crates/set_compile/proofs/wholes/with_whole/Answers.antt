@@ -6,8 +6,7 @@ use Rattle.product_ops.specs.Products.{IsHeavyProduct}
 use Rattle.product_ops.specs.Tracks.{TrackLists}
 use Rattle.product_ops.specs.declared.operation.Op.TheVariants.{And as Both}
 use Rattle.step_tables.specs.Kept.{Kept}
-use Rattle.set_compile.specs.Compiling.{with_track}
-use Rattle.set_compile.specs.Steps.{IsOfPairs}
+use Rattle.set_compile.specs.Steps.{IsOfPairs, with_track}
 use Rattle.set_compile.proofs.Modes.{one_mode}
 use Rattle.set_compile.proofs.wholes.with_whole.Goals as goal
 

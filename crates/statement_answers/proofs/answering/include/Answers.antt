@@ -1,8 +1,10 @@
-use Rattle.std.proofs.Common.{subst}
+use Rattle.std.proofs.Common.{refl, subst}
 use Rattle.std.specs.Prelude.{codes}
 use Rattle.formula_core.specs.Variables.{sorts_of}
 use Rattle.set_answers.specs.Agreement.{Includes}
-use Rattle.set_answers.specs.Differences.{AreWithin}
+use Rattle.lash_io.proofs.Holding.{holds_none}
+use Rattle.product_ops.specs.Products.{IsHeavyProduct}
+use Rattle.set_answers.specs.Differences.{AreWithin, all_tracks}
 use Rattle.statement_answers.specs.declared.settings.Settings.{Settings}
 use Rattle.statement_meaning.specs.Asking.{Subset}
 use Rattle.statement_answers.specs.Keeping.{sets_kept}
@@ -33,3 +35,12 @@ subset-requires-clause-tracks g c =
     let k = c.requires.0 in
     let l = c.requires.1.1.0 in
     same_tracks c.args.library.now.settings k l _ _ (c.held.ensures k c.requires.1.0).answer (c.held-2.ensures l c.requires.1.1.1.0).answer c.requires.1.1.1.1
+
+pub returns-in-Err-Heavy-clause-answered : goal.returns-in-Err-Heavy-clause-answered
+returns-in-Err-Heavy-clause-answered g c =
+    let h = c.held.ensures c.requires.0 c.requires.1.0 in
+    let i = c.held-2.ensures c.requires.1.1.0 c.requires.1.1.1.0 in
+    let t = c.held.result.now.canon.table in
+    let u = c.held-2.result.now.canon.table in
+    let heavy = subst (λ (s : Settings). IsHeavyProduct t u (all_tracks t.tracks) s.cells) c.settings.ensures.settings (c.in-Err-Heavy.ensures.heavy c.in-Err-Heavy.field-0-is) in
+    ((refl, (_, (c.requires.1.0, (_, (c.requires.1.1.1.0, (t, (u, ((h.answer, i.answer), heavy)))))))), holds_none (g.K.Sink.held c.args.out.now))

@@ -23,5 +23,5 @@ returns-in_err-canon-clause-answered c =
     let error = c.in_err-canon.field-0.0 in
     let p = err_from_is_err_and c.from_residual.result c.from_residual.ensures.1 in
     rw (p.1, p.2)
-    (none_silent c.args.library.now.settings (sets_kept c.args.library.now) (Set c.args.name c.args.vars f) c.args.vars f Unit error (λ h. h) (λ h. h)
+    (none_silent c.args.library.now.settings (sets_kept c.args.library.now) (Set c.args.name c.args.vars f) c.args.vars f Unit error (λ u h. h)
     (subst (λ (s : Settings). HasNoAutomaton s c.args.vars f error) c.settings-base.ensures.settings c.in_err-canon.ensures.cause))

@@ -4,7 +4,8 @@ use Rattle.statement_answers.proofs.laws.answers_have_one_cause.Goals as goal
 
 pub returns-clause-answered : goal.returns-clause-answered
 returns-clause-answered c = λ settings. not_unanswered settings (record {
-  heavy = c.heavy_or_compiled.ensures;
+  refused = c.refused_or_compiled.ensures;
+  one_refusal = c.refusals_are_one.ensures;
   one_table = c.tables_are_unique.ensures.compiled;
   heavy_pairs = pairs_exclude c.heavy_or_pairs.ensures c.heavy_or_mixed_pairs.ensures;
   one_power = c.least_powers_are_unique.ensures.unique;
@@ -13,7 +14,8 @@ returns-clause-answered c = λ settings. not_unanswered settings (record {
 
 pub returns-clause-refused : goal.returns-clause-refused
 returns-clause-refused c = λ settings. one_cause settings (record {
-  heavy = c.heavy_or_compiled.ensures;
+  refused = c.refused_or_compiled.ensures;
+  one_refusal = c.refusals_are_one.ensures;
   one_table = c.tables_are_unique.ensures.compiled;
   heavy_pairs = pairs_exclude c.heavy_or_pairs.ensures c.heavy_or_mixed_pairs.ensures;
   one_power = c.least_powers_are_unique.ensures.unique;
